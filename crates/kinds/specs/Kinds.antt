@@ -1,0 +1,81 @@
+-- The kinds of token and their numbers: paper 01, "Kinds". The 48 keywords and the 24 marks stand here by their spelling.
+-- Assumes nothing: these are definitions.
+use mathlib.Core.Bool.{Bool, true, false, _&&_, cond}
+use mathlib.Core.List.{List, [], _∷_}
+use Prim.Native.Nat.{ℕ, suc}
+use Prim.Native.Char.{code}
+use Prim.Native.String.{String, [] as nil, _∷_ as cons}
+use lib.Dec.{eqb, ltb}
+
+-- the bytes of a spelling
+unfoldable pub bytes : String → List ℕ
+bytes nil = []
+bytes (cons c s) = code c ∷ bytes s
+
+-- kinds 1 to 8
+abbrev pub identifier : ℕ
+identifier = 1
+
+abbrev pub integer : ℕ
+integer = 2
+
+abbrev pub floating : ℕ
+floating = 3
+
+abbrev pub fixed : ℕ
+fixed = 4
+
+abbrev pub character : ℕ
+character = 5
+
+abbrev pub wide-character : ℕ
+wide-character = 6
+
+abbrev pub string : ℕ
+string = 7
+
+abbrev pub wide-string : ℕ
+wide-string = 8
+
+-- keywords, kinds 16 to 63 in byte order of their spelling
+unfoldable pub keywords : List String
+keywords =
+    "FALSE" ∷ "Object" ∷ "TRUE" ∷ "ValueBase" ∷ "abstract" ∷ "any" ∷ "attribute" ∷ "boolean" ∷ "case" ∷ "char" ∷
+    "const" ∷ "context" ∷ "custom" ∷ "default" ∷ "double" ∷ "enum" ∷ "exception" ∷ "factory" ∷ "fixed" ∷ "float" ∷
+    "in" ∷ "inout" ∷ "interface" ∷ "local" ∷ "long" ∷ "module" ∷ "native" ∷ "octet" ∷ "oneway" ∷ "out" ∷ "private"
+    ∷ "public" ∷ "raises" ∷ "readonly" ∷ "sequence" ∷ "short" ∷ "string" ∷ "struct" ∷ "supports" ∷ "switch" ∷
+    "truncatable" ∷ "typedef" ∷ "union" ∷ "unsigned" ∷ "valuetype" ∷ "void" ∷ "wchar" ∷ "wstring" ∷ []
+
+-- marks, kinds 64 to 87 in the order of the paper
+unfoldable pub marks : List String
+marks =
+    ";" ∷ "{" ∷ "}" ∷ ":" ∷ "," ∷ "::" ∷ "=" ∷ "(" ∷ ")" ∷ "<" ∷ ">" ∷ "[" ∷ "]" ∷ "|" ∷ "^" ∷ "&" ∷ ">>" ∷ "<<" ∷ "+"
+    ∷ "-" ∷ "*" ∷ "/" ∷ "%" ∷ "~" ∷ []
+
+-- two spellings are the same
+unfoldable pub same : List ℕ → List ℕ → Bool
+same [] [] = true
+same [] (y ∷ ys) = false
+same (x ∷ xs) [] = false
+same (x ∷ xs) (y ∷ ys) = eqb x y && same xs ys
+
+-- the first of the spellings, numbered from k, that is like w in the sense of the test; 0 where none is
+unfoldable pub search-from : ℕ → (List ℕ → List ℕ → Bool) → List ℕ → List String → ℕ
+unfolding bytes
+search-from k like w [] = 0
+search-from k like w (v ∷ vs) = cond (like w (bytes v)) k (search-from (suc k) like w vs)
+
+-- the kind of the keyword spelled exactly w; 0 where w is none
+unfoldable pub keyword : List ℕ → ℕ
+unfolding same search-from keywords
+keyword w = search-from 16 same w keywords
+
+-- the kind of the mark spelled w; 0 where w is none
+unfoldable pub mark : List ℕ → ℕ
+unfolding same search-from marks
+mark w = search-from 64 same w marks
+
+-- the kind of a keyword or mark, by its spelling
+unfoldable pub kind-of : String → ℕ
+unfolding bytes keyword mark
+kind-of w = cond (ltb 0 (keyword (bytes w))) (keyword (bytes w)) (mark (bytes w))

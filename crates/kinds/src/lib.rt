@@ -1,0 +1,1 @@
+// The kinds of token, by spelling: definitions alone, in specs/Kinds.antt.
