@@ -1,0 +1,56 @@
+-- A class of bytes on an interval: what a test over each number of the interval computes holds of every byte in it.
+-- By induction on the interval's length. Assumes nothing.
+use mathlib.Core.Path.{_≡_, refl, subst}
+use mathlib.Core.Bool.{Bool, true, false, _&&_, _||_}
+use mathlib.Core.Logic.{⊎-elim}
+use Prim.Native.Nat.{ℕ, zero, suc, _+_, _≤_, _<_}
+use native.Mathlib.Nat.{eq-or-lt-of-le}
+use native.Mathlib.Omega.{arith}
+use lib.Dec.{T, eqb, eqb→eq}
+
+-- two truth values are the same
+abbrev pub agree : Bool → Bool → Bool
+agree true b = b
+agree false true = false
+agree false false = true
+
+agreed : (a b : Bool) → T (agree a b) → a ≡ b
+agreed true true t = refl
+agreed true false t = absurd t
+agreed false true t = absurd t
+agreed false false t = refl
+
+-- the test passes at n numbers from lo on
+abbrev pub every : (ℕ → Bool) → ℕ → ℕ → Bool
+every test lo zero = true
+every test lo (suc n) = test lo && every test (suc lo) n
+
+and-left : (a b : Bool) → T (a && b) → T a
+and-left true b t = tt
+and-left false b t = t
+
+and-right : (a b : Bool) → T (a && b) → T b
+and-right true b t = t
+and-right false b t = absurd t
+
+pub every-at : (test : ℕ → Bool) (lo n : ℕ) → T (every test lo n) → {k : ℕ} → lo ≤ k → k < lo + n → T (test k)
+every-at test lo zero t h l = absurd (omega arith)
+every-at test lo (suc n) t {k} h l =
+    ⊎-elim (λ (e : lo ≡ k). subst (λ (j : ℕ). T (test j)) e (and-left (test lo) (every test (suc lo) n) t))
+    (λ (g : lo < k). every-at test (suc lo) n (and-right (test lo) (every test (suc lo) n) t) (omega arith) (omega arith)) (eq-or-lt-of-le h)
+
+-- the class has one value on an interval
+pub within : (class : ℕ → Bool) (value : Bool) (lo n : ℕ) → T (every (λ k. agree value (class k)) lo n) →
+    {b : ℕ} → lo ≤ b → b < lo + n → value ≡ class b
+within class value lo n t {b} h l = agreed value (class b) (every-at (λ k. agree value (class k)) lo n t h l)
+
+or-else : (a b : Bool) → T (a || b) → (T a → ⊥) → T b
+or-else true b t n = absurd (n tt)
+or-else false b t n = t
+
+-- the class has one value on an interval but at one byte
+pub within-but : (but : ℕ) (class : ℕ → Bool) (value : Bool) (lo n : ℕ) →
+    T (every (λ k. eqb k but || agree value (class k)) lo n) → {b : ℕ} → (b ≡ but → ⊥) → lo ≤ b → b < lo + n → value ≡ class b
+within-but but class value lo n t {b} e h l =
+    agreed value (class b)
+    (or-else (eqb b but) (agree value (class b)) (every-at (λ k. eqb k but || agree value (class k)) lo n t h l) (λ u. e (eqb→eq b but u)))

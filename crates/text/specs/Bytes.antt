@@ -1,0 +1,67 @@
+-- The bytes of a text by class, and the bytes of one class in a row: paper 01, "From bytes to tokens".
+-- A text is the list of its bytes. Assumes nothing: these are definitions.
+use mathlib.Core.Bool.{Bool, true, false, not, _&&_, _||_, cond}
+use mathlib.Core.List.{List, [], _∷_}
+use Prim.Native.Char.{code}
+use Prim.Native.Nat.{ℕ, zero, suc}
+use lib.Dec.{eqb, leb}
+use lib.ListN.{getD}
+use Rattle.text.specs.declared.Class.{Class}
+use Rattle.text.specs.declared.Class.the-variants.{Space, Digit, Octal, Hexadecimal, Wordly, InLine}
+
+-- a number from lo to hi
+abbrev pub from : ℕ → ℕ → ℕ → Bool
+from lo hi b = leb lo b && leb b hi
+
+-- white space is bytes 9 to 13 and 32
+unfoldable pub space : ℕ → Bool
+space b = from 9 13 b || eqb b 32
+
+-- an ASCII letter
+unfoldable pub letter : ℕ → Bool
+letter b = from (code "A") (code "Z") b || from (code "a") (code "z") b
+
+unfoldable pub digit : ℕ → Bool
+digit b = from (code "0") (code "9") b
+
+unfoldable pub octal : ℕ → Bool
+octal b = from (code "0") (code "7") b
+
+unfoldable pub hexadecimal : ℕ → Bool
+hexadecimal b = from (code "0") (code "9") b || (from (code "A") (code "F") b || from (code "a") (code "f") b)
+
+-- letters, digits, underscores: what a word goes on with, and what may not follow a number directly
+unfoldable pub wordly : ℕ → Bool
+unfolding letter digit
+wordly b = letter b || (digit b || eqb b (code "_"))
+
+-- a line ends at byte 10 and at byte 13
+unfoldable pub line-end : ℕ → Bool
+line-end b = eqb b 10 || eqb b 13
+
+-- the text has ended: past its last byte stands 256, which is no byte
+unfoldable pub ended : ℕ → Bool
+ended b = eqb b 256
+
+-- the byte n places on; 256 past the end of the text
+abbrev pub at : List ℕ → ℕ → ℕ
+at bs n = getD bs n 256
+
+-- how many bytes of the class stand in a row at the front
+unfoldable pub run : (ℕ → Bool) → List ℕ → ℕ
+run class [] = 0
+run class (b ∷ bs) = cond (class b) (suc (run class bs)) 0
+
+-- a byte that does not end a line
+unfoldable pub in-line : ℕ → Bool
+unfolding line-end
+in-line b = not (line-end b)
+
+-- the class that a name of the code stands for
+abbrev pub member : Class → ℕ → Bool
+member Space = space
+member Digit = digit
+member Octal = octal
+member Hexadecimal = hexadecimal
+member Wordly = wordly
+member InLine = in-line

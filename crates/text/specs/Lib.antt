@@ -1,0 +1,7 @@
+pub mod Bytes
+pub mod Blanks
+pub mod Words
+pub mod Numbers
+pub mod Literals
+pub mod Lexemes
+pub mod Tokens
