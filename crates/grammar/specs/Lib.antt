@@ -1,0 +1,11 @@
+pub mod Sets
+pub mod Forest
+pub mod Rule
+pub mod Notation
+pub mod Idl
+pub mod Derivation
+pub mod Leaves
+pub mod Record
+pub mod Depth
+pub mod Blame
+pub mod Meaning

@@ -1,0 +1,1 @@
+// The published grammar, derivation, blame and meaning: definitions and theorems alone, in specs/.
