@@ -41,8 +41,8 @@ every-at test lo (suc n) t {k} h l =
 
 -- the class has one value on an interval
 pub within : (class : ℕ → Bool) (value : Bool) (lo n : ℕ) → T (every (λ k. agree value (class k)) lo n) →
-    {b : ℕ} → lo ≤ b → b < lo + n → value ≡ class b
-within class value lo n t {b} h l = agreed value (class b) (every-at (λ k. agree value (class k)) lo n t h l)
+    (b : ℕ) → (lo ≤ b) × (b < lo + n) → value ≡ class b
+within class value lo n t b h = agreed value (class b) (every-at (λ k. agree value (class k)) lo n t (h .0) (h .1))
 
 or-else : (a b : Bool) → T (a || b) → (T a → ⊥) → T b
 or-else true b t n = absurd (n tt)
@@ -50,7 +50,8 @@ or-else false b t n = t
 
 -- the class has one value on an interval but at one byte
 pub within-but : (but : ℕ) (class : ℕ → Bool) (value : Bool) (lo n : ℕ) →
-    T (every (λ k. eqb k but || agree value (class k)) lo n) → {b : ℕ} → (b ≡ but → ⊥) → lo ≤ b → b < lo + n → value ≡ class b
-within-but but class value lo n t {b} e h l =
+    T (every (λ k. eqb k but || agree value (class k)) lo n) → (b : ℕ) → (b ≡ but → ⊥) → (lo ≤ b) × (b < lo + n) → value ≡ class b
+within-but but class value lo n t b e h =
     agreed value (class b)
-    (or-else (eqb b but) (agree value (class b)) (every-at (λ k. eqb k but || agree value (class k)) lo n t h l) (λ u. e (eqb→eq b but u)))
+    (or-else (eqb b but) (agree value (class b)) (every-at (λ k. eqb k but || agree value (class k)) lo n t (h .0) (h .1))
+    (λ u. e (eqb→eq b but u)))

@@ -9,15 +9,15 @@ use Rattle.text.proofs.is_digit.Tie as tie
 
 returns : tie.Need-returns
 unfolding digit
-returns c = within digit true 48 10 tt {b = c .before .before .args .b} (omega arith) (omega arith)
+returns c = within digit true 48 10 tt (c .before .before .args .b) (omega arith)
 
 returns-2 : tie.Need-returns-2
 unfolding digit
-returns-2 c = within digit false 0 48 tt {b = c .before .args .b} (omega arith) (omega arith)
+returns-2 c = within digit false 0 48 tt (c .before .args .b) (omega arith)
 
 returns-3 : tie.Need-returns-3
 unfolding digit
-returns-3 c = within digit false 58 198 tt {b = c .before .before .args .b} (omega arith) (omega arith)
+returns-3 c = within digit false 58 198 tt (c .before .before .args .b) (omega arith)
 
 pub is-digit-spec : {M : Type 1} → statement M
 is-digit-spec = tie.close (tie.spec returns returns-2 returns-3)

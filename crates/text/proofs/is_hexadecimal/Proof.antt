@@ -9,31 +9,31 @@ use Rattle.text.proofs.is_hexadecimal.Tie as tie
 
 returns : tie.Need-returns
 unfolding hexadecimal
-returns c = within hexadecimal true 48 10 tt {b = c .before .before .args .b} (omega arith) (omega arith)
+returns c = within hexadecimal true 48 10 tt (c .before .before .args .b) (omega arith)
 
 returns-2 : tie.Need-returns-2
 unfolding hexadecimal
-returns-2 c = within hexadecimal true 65 6 tt {b = c .before .before .before .before .args .b} (omega arith) (omega arith)
+returns-2 c = within hexadecimal true 65 6 tt (c .before .before .before .before .args .b) (omega arith)
 
 returns-3 : tie.Need-returns-3
 unfolding hexadecimal
-returns-3 c = within hexadecimal true 97 6 tt {b = c .before .before .before .before .before .before .args .b} (omega arith) (omega arith)
+returns-3 c = within hexadecimal true 97 6 tt (c .before .before .before .before .before .before .args .b) (omega arith)
 
 returns-4 : tie.Need-returns-4
 unfolding hexadecimal
-returns-4 c = within hexadecimal false 0 48 tt {b = c .before .args .b} (omega arith) (omega arith)
+returns-4 c = within hexadecimal false 0 48 tt (c .before .args .b) (omega arith)
 
 returns-5 : tie.Need-returns-5
 unfolding hexadecimal
-returns-5 c = within hexadecimal false 58 7 tt {b = c .before .before .before .args .b} (omega arith) (omega arith)
+returns-5 c = within hexadecimal false 58 7 tt (c .before .before .before .args .b) (omega arith)
 
 returns-6 : tie.Need-returns-6
 unfolding hexadecimal
-returns-6 c = within hexadecimal false 71 26 tt {b = c .before .before .before .before .before .args .b} (omega arith) (omega arith)
+returns-6 c = within hexadecimal false 71 26 tt (c .before .before .before .before .before .args .b) (omega arith)
 
 returns-7 : tie.Need-returns-7
 unfolding hexadecimal
-returns-7 c = within hexadecimal false 103 153 tt {b = c .before .before .before .before .before .before .args .b} (omega arith) (omega arith)
+returns-7 c = within hexadecimal false 103 153 tt (c .before .before .before .before .before .before .args .b) (omega arith)
 
 pub is-hexadecimal-spec : {M : Type 1} → statement M
 is-hexadecimal-spec =

@@ -9,15 +9,15 @@ use Rattle.text.proofs.is_octal.Tie as tie
 
 returns : tie.Need-returns
 unfolding octal
-returns c = within octal true 48 8 tt {b = c .before .before .args .b} (omega arith) (omega arith)
+returns c = within octal true 48 8 tt (c .before .before .args .b) (omega arith)
 
 returns-2 : tie.Need-returns-2
 unfolding octal
-returns-2 c = within octal false 0 48 tt {b = c .before .args .b} (omega arith) (omega arith)
+returns-2 c = within octal false 0 48 tt (c .before .args .b) (omega arith)
 
 returns-3 : tie.Need-returns-3
 unfolding octal
-returns-3 c = within octal false 56 200 tt {b = c .before .before .args .b} (omega arith) (omega arith)
+returns-3 c = within octal false 56 200 tt (c .before .before .args .b) (omega arith)
 
 pub is-octal-spec : {M : Type 1} → statement M
 is-octal-spec = tie.close (tie.spec returns returns-2 returns-3)
