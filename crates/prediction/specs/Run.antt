@@ -1,0 +1,109 @@
+-- The reader as a relation: one token of lookahead, d levels of depth left. What it accepts is derived.
+-- Definitions; soundness by induction on the run.
+use Prim.Native.Nat.{ℕ, suc, _≤_}
+use mathlib.Core.Path.{_≡_}
+use mathlib.Core.Bool.{Bool, true, false, not, _&&_, _||_}
+use native.Mathlib.Omega.{arith}
+use lib.Dec.{T}
+use Rattle.grammar.specs.Forest.{Forest, end, leaf, node, join}
+use Rattle.grammar.specs.Sets.{elem}
+use Rattle.prediction.specs.Plan.{Plan, token, group, call, wrap, seq, alt, skip, many, PlanDerives, plan-token}
+use Rattle.prediction.specs.Plan.{plan-group, plan-call, plan-wrap, plan-seq, plan-left, plan-right, plan-skip}
+use Rattle.prediction.specs.Plan.{plan-none, plan-more}
+use Rattle.prediction.specs.Typing.{Table, null, first}
+
+pub data Outcome : Type 0 where
+  done : ℕ → Forest → Outcome
+  blame : ℕ → Outcome
+  deep : ℕ → Outcome
+
+unfoldable pub stop : Outcome → ℕ
+stop (done j g) = j
+stop (blame q) = q
+stop (deep q) = q
+
+unfoldable pub stopped : Outcome → Bool
+stopped (done j g) = false
+stopped (blame q) = true
+stopped (deep q) = true
+
+-- at kind k the first of two plans is taken; else the second may be
+unfoldable pub goes : Table → Plan → Plan → ℕ → Bool
+goes t a b k = elem k (first t a) || (not (elem k (first t b)) && null t a)
+
+unfoldable pub turns : Table → Plan → ℕ → Bool
+turns t b k = elem k (first t b) || null t b
+
+pub data Runs (t : Table) (s : ℕ → ℕ) : ℕ → Plan → ℕ → Forest → Outcome → Type 0 where
+  run-token : {d k i : ℕ} {f : Forest} → s i ≡ k → Runs t s d (token k) i f (done (suc i) (leaf f k))
+  run-miss : {d k i : ℕ} {f : Forest} → (s i ≡ k → ⊥) → Runs t s d (token k) i f (blame i)
+  run-shut : {d o c i : ℕ} {b : Plan} {f : Forest} → (s i ≡ o → ⊥) → Runs t s d (group o b c) i f (blame i)
+  run-deep : {o c i : ℕ} {b : Plan} {f : Forest} → s i ≡ o → Runs t s 0 (group o b c) i f (deep i)
+  run-inside : {d o c i : ℕ} {b : Plan} {f : Forest} {x : Outcome} → s i ≡ o → Runs t s d b (suc i) (leaf f o) x →
+      T (stopped x) → Runs t s (suc d) (group o b c) i f x
+  run-group : {d o c i m : ℕ} {b : Plan} {f g : Forest} → s i ≡ o → Runs t s d b (suc i) (leaf f o) (done m g) →
+      s m ≡ c → Runs t s (suc d) (group o b c) i f (done (suc m) (leaf g c))
+  run-unclosed : {d o c i m : ℕ} {b : Plan} {f g : Forest} → s i ≡ o → Runs t s d b (suc i) (leaf f o) (done m g) →
+      (s m ≡ c → ⊥) → Runs t s (suc d) (group o b c) i f (blame m)
+  run-call : {d n i j : ℕ} {f g h : Forest} → Runs t s d (t .plan n) i end (done j h) → g ≡ join f h →
+      Runs t s d (call n) i f (done j g)
+  run-call-stop : {d n i : ℕ} {f : Forest} {x : Outcome} → Runs t s d (t .plan n) i end x → T (stopped x) →
+      Runs t s d (call n) i f x
+  run-wrap : {d r i : ℕ} {f : Forest} → Runs t s d (wrap r) i f (done i (node end r f))
+  run-seq : {d i m : ℕ} {a b : Plan} {f h : Forest} {x : Outcome} → Runs t s d a i f (done m h) → Runs t s d b m h x →
+      Runs t s d (seq a b) i f x
+  run-seq-stop : {d i : ℕ} {a b : Plan} {f : Forest} {x : Outcome} → Runs t s d a i f x → T (stopped x) →
+      Runs t s d (seq a b) i f x
+  run-left : {d i : ℕ} {a b : Plan} {f : Forest} {x : Outcome} → T (goes t a b (s i)) → Runs t s d a i f x →
+      Runs t s d (alt a b) i f x
+  run-right : {d i : ℕ} {a b : Plan} {f : Forest} {x : Outcome} → T (not (goes t a b (s i))) → T (turns t b (s i)) →
+      Runs t s d b i f x → Runs t s d (alt a b) i f x
+  run-neither : {d i : ℕ} {a b : Plan} {f : Forest} → T (not (goes t a b (s i))) → T (not (turns t b (s i))) →
+      Runs t s d (alt a b) i f (blame i)
+  run-skip : {d i : ℕ} {f : Forest} → Runs t s d skip i f (done i f)
+  run-last : {d i : ℕ} {a : Plan} {f : Forest} → T (not (elem (s i) (first t a))) → Runs t s d (many a) i f (done i f)
+  run-more : {d i m : ℕ} {a : Plan} {f h : Forest} {x : Outcome} → T (elem (s i) (first t a)) →
+      Runs t s d a i f (done m h) → Runs t s d (many a) m h x → Runs t s d (many a) i f x
+  run-more-stop : {d i : ℕ} {a : Plan} {f : Forest} {x : Outcome} → T (elem (s i) (first t a)) → Runs t s d a i f x →
+      T (stopped x) → Runs t s d (many a) i f x
+
+module _ {t : Table} {s : ℕ → ℕ} where
+  -- what is accepted is derived
+  pub sound : {d i j : ℕ} {p : Plan} {f g : Forest} → Runs t s d p i f (done j g) → PlanDerives (t .plan) s p i j f g
+  unfolding stopped
+  sound (run-token e) = plan-token e
+  sound (run-inside e r z) = absurd z
+  sound (run-group e r e′) = plan-group e (sound r) e′
+  sound (run-call r e) = plan-call (sound r) e
+  sound (run-call-stop r z) = absurd z
+  sound run-wrap = plan-wrap
+  sound (run-seq a b) = plan-seq (sound a) (sound b)
+  sound (run-seq-stop a z) = absurd z
+  sound (run-left u a) = plan-left (sound a)
+  sound (run-right u v a) = plan-right (sound a)
+  sound run-skip = plan-skip
+  sound (run-last u) = plan-none
+  sound (run-more u a b) = plan-more (sound a) (sound b)
+  sound (run-more-stop u a z) = absurd z
+
+  pub ahead : {d i : ℕ} {p : Plan} {f : Forest} {x : Outcome} → Runs t s d p i f x → i ≤ stop x
+  unfolding stop
+  ahead (run-token e) = omega arith
+  ahead (run-miss e) = omega arith
+  ahead (run-shut e) = omega arith
+  ahead (run-deep e) = omega arith
+  ahead (run-inside e r z) = let h = ahead r in omega arith
+  ahead (run-group e r e′) = let h = ahead r in omega arith
+  ahead (run-unclosed e r e′) = let h = ahead r in omega arith
+  ahead (run-call r e) = ahead r
+  ahead (run-call-stop r z) = ahead r
+  ahead run-wrap = omega arith
+  ahead (run-seq a b) = let h = ahead a in let h′ = ahead b in omega arith
+  ahead (run-seq-stop a z) = ahead a
+  ahead (run-left u a) = ahead a
+  ahead (run-right u v a) = ahead a
+  ahead (run-neither u v) = omega arith
+  ahead run-skip = omega arith
+  ahead (run-last u) = omega arith
+  ahead (run-more u a b) = let h = ahead a in let h′ = ahead b in omega arith
+  ahead (run-more-stop u a z) = ahead a
