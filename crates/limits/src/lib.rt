@@ -1,0 +1,39 @@
+// The ceilings of a call, named with the type that they bound.
+ghost use mathlib.Core.Path.{_≡_};
+ghost use Rattle.limits.specs.Limits.{bounded};
+
+// The limits of a good call: the length of its text in bytes, and its depth setting.
+pub struct Limits {
+    pub text: usize,
+    pub depth: u32,
+}
+
+pub enum Bounded {
+    Good(Limits),
+    Beyond,
+}
+
+impl Limits {
+    pub const TEXT: usize = 1048576;
+
+    pub const DEPTH: u32 = 64;
+
+    // The limits of a call, where both are within their ceilings.
+    pub fn new(text: usize, depth: u32) -> Bounded
+        ensures { λ r. do
+          most ← ⟦Limits::TEXT⟧ .entry
+          deepest ← ⟦Limits::DEPTH⟧ .entry
+          ⌜ r ≡ bounded most deepest text depth ⌝ }
+    {
+        if Limits::TEXT < text {
+            return Bounded::Beyond;
+        }
+        if depth == 0 {
+            return Bounded::Beyond;
+        }
+        if Limits::DEPTH < depth {
+            return Bounded::Beyond;
+        }
+        Bounded::Good(Limits { text, depth })
+    }
+}
