@@ -1,0 +1,15 @@
+//! The grammar as data, and what comes from it: valid texts, damaged texts, token tables, and a slow reader.
+
+pub mod cases;
+pub mod chart;
+pub mod damage;
+pub mod grammar;
+pub mod kind;
+mod random;
+pub mod sentence;
+pub mod text;
+
+pub use cases::Cases;
+pub use chart::{Chart, Meaning};
+pub use grammar::Grammar;
+pub use random::Random;

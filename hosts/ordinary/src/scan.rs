@@ -1,0 +1,273 @@
+//! From bytes to tokens.
+
+use crate::keyword::{self, Word};
+use crate::kind;
+use crate::number;
+
+/// The first fault of a text: the number of its reply and the place it blames.
+#[derive(Clone, Copy, Debug, PartialEq, Eq)]
+pub struct Fault {
+    pub number: u32,
+    pub place: usize,
+}
+
+/// A lexeme's kind and the place one past its last byte.
+type Lexeme = Result<(u32, usize), Fault>;
+
+/// Writes the token records that have room and counts all tokens, or finds the first fault.
+pub fn scan(text: &[u8], tokens: &mut [u32]) -> Result<usize, Fault> {
+    let mut records = tokens.chunks_exact_mut(3);
+    let mut count = 0;
+    let mut at = 0;
+    loop {
+        at = skip_blanks(text, at)?;
+        let Some(&first) = text.get(at) else {
+            return Ok(count);
+        };
+        let (kind, end) = lexeme(text, at, first)?;
+        if let Some(record) = records.next() {
+            record.copy_from_slice(&[kind, at as u32, (end - at) as u32]);
+        }
+        count += 1;
+        at = end;
+    }
+}
+
+/// The place of the next byte that is neither white space nor in a comment.
+fn skip_blanks(text: &[u8], start: usize) -> Result<usize, Fault> {
+    let mut at = start;
+    loop {
+        match text.get(at) {
+            Some(9..=13 | 32) => at += 1,
+            Some(b'/') => match text.get(at + 1) {
+                Some(b'/') => at = skip(text, at + 2, |byte| byte != 10 && byte != 13),
+                Some(b'*') => at = comment_end(text, at)?,
+                _ => return Ok(at),
+            },
+            _ => return Ok(at),
+        }
+    }
+}
+
+/// The place after the comment that starts here with `/*`.
+fn comment_end(text: &[u8], start: usize) -> Result<usize, Fault> {
+    let body = start + 2;
+    match text[body..].windows(2).position(|pair| pair == b"*/") {
+        Some(length) => Ok(body + length + 2),
+        None => Err(open_at_end(start)),
+    }
+}
+
+fn lexeme(text: &[u8], start: usize, first: u8) -> Lexeme {
+    let next = text.get(start + 1).copied();
+    match first {
+        b'L' if matches!(next, Some(b'\'' | b'"')) => quoted(text, start, start + 1),
+        b'A'..=b'Z' | b'a'..=b'z' => word(text, start),
+        b'_' => escaped_identifier(text, start, next),
+        b'0'..=b'9' => numeral(text, start),
+        b'.' if next.is_some_and(|byte| byte.is_ascii_digit()) => numeral(text, start),
+        b'\'' | b'"' => quoted(text, start, start),
+        _ => mark(first, next, start),
+    }
+}
+
+/// The first place from `start` on whose byte fails the test, or the end.
+pub fn skip(text: &[u8], start: usize, test: impl Fn(u8) -> bool) -> usize {
+    let mut at = start;
+    while at < text.len() && test(text[at]) {
+        at += 1;
+    }
+    at
+}
+
+fn is_word_byte(byte: u8) -> bool {
+    byte.is_ascii_alphanumeric() || byte == b'_'
+}
+
+fn word(text: &[u8], start: usize) -> Lexeme {
+    let end = skip(text, start + 1, is_word_byte);
+    match keyword::sort(&text[start..end]) {
+        Word::Keyword(kind) => Ok((kind, end)),
+        Word::Identifier => Ok((kind::IDENTIFIER, end)),
+        Word::KeywordInAnotherCase => Err(Fault { number: number::KEYWORD_CASE, place: start }),
+    }
+}
+
+fn escaped_identifier(text: &[u8], start: usize, next: Option<u8>) -> Lexeme {
+    match next {
+        Some(byte) if byte.is_ascii_alphabetic() => Ok((kind::IDENTIFIER, skip(text, start + 2, is_word_byte))),
+        _ => Err(no_lexeme(start)),
+    }
+}
+
+/// An integer, floating or fixed literal; `start` is at a digit, or at a point before a digit.
+fn numeral(text: &[u8], start: usize) -> Lexeme {
+    let (kind, end) = hexadecimal(text, start).unwrap_or_else(|| decimal(text, start));
+    if text.get(end).is_some_and(|&byte| is_word_byte(byte)) {
+        return Err(bad_literal(start));
+    }
+    Ok((kind, end))
+}
+
+fn hexadecimal(text: &[u8], start: usize) -> Option<(u32, usize)> {
+    let digits = match text[start..] {
+        [b'0', b'x' | b'X', ..] => start + 2,
+        _ => return None,
+    };
+    let end = skip(text, digits, |byte| byte.is_ascii_hexdigit());
+    (digits < end).then_some((kind::INTEGER, end))
+}
+
+fn decimal(text: &[u8], start: usize) -> (u32, usize) {
+    let is_digit = |byte: u8| byte.is_ascii_digit();
+    let whole = skip(text, start, is_digit);
+    let has_point = text.get(whole) == Some(&b'.');
+    let mantissa = if has_point { skip(text, whole + 1, is_digit) } else { whole };
+    match text.get(mantissa) {
+        Some(b'd' | b'D') => return (kind::FIXED_POINT, mantissa + 1),
+        Some(b'e' | b'E') => {
+            if let Some(end) = exponent_end(text, mantissa + 1) {
+                return (kind::FLOATING, end);
+            }
+        }
+        _ => {}
+    }
+    match (has_point, text[start]) {
+        (true, _) => (kind::FLOATING, mantissa),
+        (false, b'0') => (kind::INTEGER, skip(text, start, |byte| matches!(byte, b'0'..=b'7'))),
+        (false, _) => (kind::INTEGER, whole),
+    }
+}
+
+/// The end of an exponent's optional sign and digits, if there are digits.
+fn exponent_end(text: &[u8], start: usize) -> Option<usize> {
+    let digits = match text.get(start) {
+        Some(b'+' | b'-') => start + 1,
+        _ => start,
+    };
+    let end = skip(text, digits, |byte| byte.is_ascii_digit());
+    (digits < end).then_some(end)
+}
+
+/// A character or string literal that starts at `start` and whose opening quote is at `open`.
+fn quoted(text: &[u8], start: usize, open: usize) -> Lexeme {
+    let wide = start < open;
+    let quote = text[open];
+    let is_string = quote == b'"';
+    let mut at = open + 1;
+    let mut characters = 0;
+    loop {
+        let byte = match text.get(at) {
+            None | Some(10 | 13) => return Err(open_at_end(start)),
+            Some(&byte) => byte,
+        };
+        if byte == quote {
+            break;
+        }
+        let character = character(text, at, byte, wide).map_err(|number| Fault { number, place: start })?;
+        if is_string && character.zero || !is_string && characters == 1 {
+            return Err(bad_literal(start));
+        }
+        characters += 1;
+        at = character.end;
+    }
+    match (is_string, wide) {
+        (false, _) if characters == 0 => Err(bad_literal(start)),
+        (false, false) => Ok((kind::CHARACTER, at + 1)),
+        (false, true) => Ok((kind::WIDE_CHARACTER, at + 1)),
+        (true, false) => Ok((kind::STRING_LITERAL, at + 1)),
+        (true, true) => Ok((kind::WIDE_STRING, at + 1)),
+    }
+}
+
+/// One character of a literal: where it ends and whether it is character zero.
+struct Character {
+    end: usize,
+    zero: bool,
+}
+
+fn character(text: &[u8], at: usize, byte: u8, wide: bool) -> Result<Character, u32> {
+    match byte {
+        b'\\' => escape(text, at + 1, wide),
+        32..=126 | 160..=255 => Ok(Character { end: at + 1, zero: false }),
+        _ => Err(number::BAD_LITERAL),
+    }
+}
+
+/// The escape whose backslash stands before `at`.
+fn escape(text: &[u8], at: usize, wide: bool) -> Result<Character, u32> {
+    match text.get(at) {
+        None | Some(10 | 13) => Err(number::OPEN),
+        Some(b'n' | b't' | b'v' | b'b' | b'r' | b'f' | b'a' | b'\\' | b'?' | b'\'' | b'"') => {
+            Ok(Character { end: at + 1, zero: false })
+        }
+        Some(b'0'..=b'7') => numbered(text, at, 3, 8),
+        Some(b'x') => numbered(text, at + 1, 2, 16),
+        Some(b'u') if wide => numbered(text, at + 1, 4, 16),
+        _ => Err(number::BAD_LITERAL),
+    }
+}
+
+/// A character given by its number: as many digits as stand there, at most `limit`.
+fn numbered(text: &[u8], start: usize, limit: usize, radix: u32) -> Result<Character, u32> {
+    let mut value = 0;
+    let mut end = start;
+    while end < start + limit {
+        let Some(digit) = text.get(end).and_then(|&byte| (byte as char).to_digit(radix)) else {
+            break;
+        };
+        value = value * radix + digit;
+        end += 1;
+    }
+    if end == start {
+        let cut_short = matches!(text.get(end), None | Some(10 | 13));
+        return Err(if cut_short { number::OPEN } else { number::BAD_LITERAL });
+    }
+    if radix == 8 && value > 0o377 {
+        return Err(number::BAD_LITERAL);
+    }
+    Ok(Character { end, zero: value == 0 })
+}
+
+fn mark(first: u8, next: Option<u8>, start: usize) -> Lexeme {
+    let kind = match (first, next) {
+        (b':', Some(b':')) => return Ok((kind::SCOPE, start + 2)),
+        (b'>', Some(b'>')) => return Ok((kind::SHIFT_RIGHT, start + 2)),
+        (b'<', Some(b'<')) => return Ok((kind::SHIFT_LEFT, start + 2)),
+        (b';', _) => kind::SEMICOLON,
+        (b'{', _) => kind::LEFT_BRACE,
+        (b'}', _) => kind::RIGHT_BRACE,
+        (b':', _) => kind::COLON,
+        (b',', _) => kind::COMMA,
+        (b'=', _) => kind::EQUALS,
+        (b'(', _) => kind::LEFT_PARENTHESIS,
+        (b')', _) => kind::RIGHT_PARENTHESIS,
+        (b'<', _) => kind::LESS,
+        (b'>', _) => kind::GREATER,
+        (b'[', _) => kind::LEFT_BRACKET,
+        (b']', _) => kind::RIGHT_BRACKET,
+        (b'|', _) => kind::BAR,
+        (b'^', _) => kind::CARET,
+        (b'&', _) => kind::AMPERSAND,
+        (b'+', _) => kind::PLUS,
+        (b'-', _) => kind::MINUS,
+        (b'*', _) => kind::STAR,
+        (b'/', _) => kind::SLASH,
+        (b'%', _) => kind::PERCENT,
+        (b'~', _) => kind::TILDE,
+        _ => return Err(no_lexeme(start)),
+    };
+    Ok((kind, start + 1))
+}
+
+fn no_lexeme(place: usize) -> Fault {
+    Fault { number: number::NO_LEXEME, place }
+}
+
+fn open_at_end(place: usize) -> Fault {
+    Fault { number: number::OPEN, place }
+}
+
+fn bad_literal(place: usize) -> Fault {
+    Fault { number: number::BAD_LITERAL, place }
+}

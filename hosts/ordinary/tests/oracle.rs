@@ -1,0 +1,123 @@
+//! The reader against the rules as data: acceptance, place of blame, tree, and the order of the replies.
+
+use generate::cases::{depth, table_length};
+use generate::kind::{CLOSING, OPENING};
+use generate::{Cases, Chart, Grammar, Meaning, Random};
+use ordinary::{number, read_tree, Reply};
+
+/// The answer that the scope page gives to a call of the tree part, from the limitless meaning of the list.
+fn answer(meaning: &Meaning, grammar: &Grammar, kinds: &[u32], text_length: usize, room: usize, depth: u32) -> Reply {
+    let count = kinds.len() as u32;
+    let reply = |number, token: usize, records| {
+        let place = if token == kinds.len() { text_length as u32 } else { place_of(token) };
+        Reply { number, place, tokens: count, records }
+    };
+    let blame = match meaning {
+        Meaning::Blame(token) => *token,
+        Meaning::Records(_) => kinds.len(),
+    };
+    let marks = |spellings: [&str; 4]| spellings.map(|spelling| grammar.kinds.of(spelling));
+    if let Some(token) = first_too_deep(&kinds[..blame], marks(OPENING), marks(CLOSING), depth) {
+        return reply(number::TOO_DEEP, token, 0);
+    }
+    match meaning {
+        Meaning::Blame(token) => reply(number::GRAMMAR, *token, 0),
+        Meaning::Records(records) if records.len() > room => {
+            reply(number::TREE_TABLE_FULL, kinds.len(), records.len() as u32)
+        }
+        Meaning::Records(records) => reply(number::ACCEPTED, kinds.len(), records.len() as u32),
+    }
+}
+
+fn first_too_deep(kinds: &[u32], opening: [u32; 4], closing: [u32; 4], depth: u32) -> Option<usize> {
+    let mut open = 0;
+    for (token, kind) in kinds.iter().enumerate() {
+        if opening.contains(kind) {
+            open += 1;
+        }
+        if closing.contains(kind) {
+            open -= 1;
+        }
+        if open > depth {
+            return Some(token);
+        }
+    }
+    None
+}
+
+fn place_of(token: usize) -> u32 {
+    5 * token as u32 + 1
+}
+
+fn table_of(kinds: &[u32]) -> Vec<u32> {
+    kinds.iter().enumerate().flat_map(|(token, &kind)| [kind, place_of(token), 3]).collect()
+}
+
+/// Compares the reader with the rules on one list, with a tree table of some length.
+fn check(kinds: &[u32], chart: &Chart, grammar: &Grammar, random: &mut Random) {
+    let meaning = chart.meaning(kinds);
+    let records = match &meaning {
+        Meaning::Records(records) => records.concat(),
+        Meaning::Blame(_) => Vec::new(),
+    };
+    let garbage: Vec<u32> = (0..table_length(records.len(), random)).map(|_| random.number() as u32).collect();
+    let depth = depth(random).clamp(1, 64);
+    let text_length = 5 * kinds.len() + 1;
+    let mut tree = garbage.clone();
+    let reply = read_tree(&table_of(kinds), kinds.len(), text_length, &mut tree, depth);
+    let wanted = answer(&meaning, grammar, kinds, text_length, tree.len() / 4, depth);
+    assert_eq!(reply, wanted, "{kinds:?} with depth {depth}");
+    let wanted_tree = match reply.number {
+        number::ACCEPTED => [&records[..], &garbage[records.len()..]].concat(),
+        _ => vec![0; garbage.len()],
+    };
+    assert_eq!(tree, wanted_tree, "{kinds:?}");
+}
+
+#[test]
+fn agrees_on_valid_and_damaged_lists() {
+    let grammar = Grammar::published();
+    let chart = Chart::new(&grammar);
+    let cases = Cases::new(&grammar);
+    let mut random = Random::new(1);
+    for _ in 0..20_000 {
+        let kinds = cases.any_kinds(&mut random);
+        if kinds.len() <= 80 {
+            check(&kinds, &chart, &grammar, &mut random);
+        }
+    }
+}
+
+/// Follows every beginning of some valid lists by every kind.
+#[test]
+fn agrees_on_each_kind_after_each_beginning() {
+    let grammar = Grammar::published();
+    let chart = Chart::new(&grammar);
+    let cases = Cases::new(&grammar);
+    let mut random = Random::new(2);
+    for rule in 2..grammar.rules.len() {
+        let kinds = list_that_uses(rule, &cases, &chart, &mut random);
+        let length = random.below(kinds.len());
+        for kind in (1..=8).chain(16..=87) {
+            let next = [&kinds[..length], &[kind]].concat();
+            check(&next, &chart, &grammar, &mut random);
+        }
+    }
+}
+
+/// A valid list in whose tree a rule is recorded; for the rules that never are, any list.
+fn list_that_uses(rule: usize, cases: &Cases, chart: &Chart, random: &mut Random) -> Vec<u32> {
+    const NEVER: [usize; 20] = [4, 11, 13, 20, 21, 28, 29, 41, 44, 45, 46, 47, 48, 50, 52, 54, 55, 59, 73, 95];
+    loop {
+        let kinds = cases.sentences().kinds(random, 25, 60);
+        if kinds.len() > 80 {
+            continue;
+        }
+        let Meaning::Records(records) = chart.meaning(&kinds) else {
+            panic!("{kinds:?} is derived");
+        };
+        if NEVER.contains(&rule) || records.iter().any(|record| record[0] == rule as u32) {
+            return kinds;
+        }
+    }
+}
