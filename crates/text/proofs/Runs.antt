@@ -25,6 +25,16 @@ run-none : (class : ℕ → Bool) (b : ℕ) (bs : List ℕ) → class b ≡ fals
 unfolding run
 run-none class b bs e = rw e
 
+-- a run is no longer than the text
+run-step : (more : Bool) {n m : ℕ} → n ≤ m → cond more (suc n) 0 ≤ suc m
+run-step true h = omega arith
+run-step false h = omega arith
+
+pub run-within : (class : ℕ → Bool) (bs : List ℕ) → run class bs ≤ length bs
+unfolding run
+run-within class [] = omega arith
+run-within class (b ∷ bs) = run-step (class b) (run-within class bs)
+
 -- the first n bytes are of the class
 pub record Passed (class : ℕ → Bool) (bs : List ℕ) (n : ℕ) : Type 0 where
   pub within : n ≤ length bs
