@@ -1,0 +1,1 @@
+// What a text means and what a call answers: definitions and theorems alone, in specs/.
