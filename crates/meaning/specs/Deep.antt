@@ -39,18 +39,18 @@ module _ (setting : ℕ) (kinds : ℕ → ℕ) where
     pub found : p < t → T (too-deep setting kinds p)
 
   first-next : (t p : ℕ) (x y : Bool) → (T x → p < t) → (T (not x) → t ≤ p) → (T y → T (too-deep setting kinds t)) →
-    (T (too-deep setting kinds t) → T y) → First t p → First (suc t) (cond x p (cond y t (suc t)))
+      (T (too-deep setting kinds t) → T y) → First t p → First (suc t) (cond x p (cond y t (suc t)))
   first-next t p true y u v w z f = record { within = omega (arith, f .within); before = f .before; found = λ h. f .found (u tt) }
   first-next t p false true u v w z f = record {
-      within = omega arith;
-      before = λ q h. f .before q (omega (arith, v tt));
-      found = λ h. w tt
-    }
+    within = omega arith;
+    before = λ q h. f .before q (omega (arith, v tt));
+    found = λ h. w tt;
+  }
   first-next t p false false u v w z f = record {
-      within = omega arith;
-      before = λ q h e. last q e (ltb q t) (ltb→lt q t) (nltb→le q t) h;
-      found = λ h. absurd (omega arith)
-    }
+    within = omega arith;
+    before = λ q h e. last q e (ltb q t) (ltb→lt q t) (nltb→le q t) h;
+    found = λ h. absurd (omega arith);
+  }
     where
       last : (q : ℕ) → T (too-deep setting kinds q) → (b : Bool) → (T b → q < t) → (T (not b) → t ≤ q) → q < suc t → ⊥
       last q e true i j h = f .before q (omega (arith, v tt, i tt)) e
@@ -91,7 +91,7 @@ module _ (setting : ℕ) (kinds : ℕ → ℕ) where
       first-one (record {
         within = omega arith;
         before = λ k l. none-too-deep q k (d .before) l;
-        found = λ l. and-both (opening (kinds q)) (leb setting (depth kinds q)) (d .opens) (le→leb setting (depth kinds q) (omega (arith, d .full)))
+        found = λ l. and-both (opening (kinds q)) (leb setting (depth kinds q)) (d .opens) (le→leb setting (depth kinds q) (omega (arith, d .full)));
       })
 
   -- where none is too deep before j, the first is not before j
@@ -115,6 +115,7 @@ first-grows small large kinds t h =
         let l = leb→le large (depth kinds q) (and-second (opening (kinds q)) (leb large (depth kinds q)) e) in
         and-both (opening (kinds q)) (leb small (depth kinds q)) (and-first (opening (kinds q)) (leb large (depth kinds q)) e)
         (le→leb small (depth kinds q) (omega arith))
+
     go : (p q : ℕ) → First small kinds t p → First large kinds t q → p ≤ q
     go p q f g = pick (ltb q p) (ltb→lt q p) (nltb→le q p)
       where

@@ -1,1 +1,4 @@
 pub mod Deep
+pub mod Sense
+pub mod Verdict
+pub mod Larger
