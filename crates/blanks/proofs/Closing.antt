@@ -1,0 +1,76 @@
+-- The search of */ as a loop passes the bytes one by one.
+-- A byte that begins no */ is one byte more to the next; a text of one byte holds none. Assumes nothing.
+use mathlib.Core.Path.{_≡_, refl, ap, sym, _∙_}
+use mathlib.Core.Bool.{Bool, true, false, _&&_, cond}
+use mathlib.Core.List.{List, [], _∷_}
+use Prim.Native.Char.{code}
+use Prim.Native.Nat.{ℕ, zero, suc, _+_, _≤_, _<_}
+use native.Mathlib.Numerals.{add-one}
+use native.Mathlib.Omega.{arith}
+use lib.Dec.{eqb}
+use lib.ListN.{length, getD, drop, length-drop}
+use lib.Seq.{drop-cons, getD-drop}
+use Rattle.text.specs.Bytes.{at}
+use Rattle.text.specs.Blanks.{further, to-close}
+use Rattle.text.proofs.Runs.{at-inside}
+
+-- n bytes more, where there are any
+abbrev pub beyond : ℕ → ℕ → ℕ
+beyond n zero = 0
+beyond n (suc k) = n + suc k
+
+beyond-none : (k : ℕ) → k ≡ beyond 0 k
+beyond-none zero = refl
+beyond-none (suc k) = omega arith
+
+beyond-further : (n k : ℕ) → beyond n (further k) ≡ beyond (n + 1) k
+unfolding further
+beyond-further n zero = refl
+beyond-further n (suc k) = omega arith
+
+-- a byte and the byte after it are */
+abbrev pub closes : ℕ → ℕ → Bool
+closes b next = eqb b (code "*") && eqb next (code "/")
+
+never : (t : Bool) (n : ℕ) → cond (t && false) n 0 ≡ 0
+never true n = refl
+never false n = refl
+
+-- one byte is too few
+pub one-byte : (bs : List ℕ) → length bs ≤ 1 → to-close bs ≡ 0
+unfolding to-close further
+one-byte [] h = refl
+one-byte (b ∷ []) h = never (eqb b (code "*")) 2
+one-byte (b ∷ c ∷ bs) h = absurd (omega arith)
+
+-- no */ begins in the first n bytes
+pub record Passed (bs : List ℕ) (n : ℕ) : Type 0 where
+  pub within : n ≤ length bs
+  pub so-far : to-close bs ≡ beyond n (to-close (drop n bs))
+
+module _ (bs : List ℕ) where
+  pub passed-none : Passed bs 0
+  passed-none = record { within = omega arith; so-far = beyond-none (to-close bs) }
+
+  -- the two bytes at place n
+  front : (n : ℕ) → n + 1 < length bs →
+      to-close (drop n bs) ≡ cond (closes (getD bs n 0) (getD bs (n + 1) 0)) 2 (further (to-close (drop (n + 1) bs)))
+  unfolding to-close
+  front n h =
+      let next : at (drop (suc n) bs) 0 ≡ getD bs (n + 1) 0 =
+      getD-drop (suc n) bs 0 256 ∙ ap (at bs) (omega arith) ∙ sym (at-inside bs (n + 1) h) in
+      ap to-close (drop-cons bs n 0 (omega arith)) ∙ rw (next, add-one n)
+
+  module _ (n : ℕ) (h : n + 1 < length bs) (p : Passed bs n) where
+    ahead : {closed : Bool} → closes (getD bs n 0) (getD bs (n + 1) 0) ≡ closed →
+        to-close bs ≡ beyond n (cond closed 2 (further (to-close (drop (n + 1) bs))))
+    ahead e = rw (p .so-far, front n h, e)
+
+    pub passed-more : closes (getD bs n 0) (getD bs (n + 1) 0) ≡ false → Passed bs (n + 1)
+    passed-more e = record { within = omega arith; so-far = ahead e ∙ beyond-further n (to-close (drop (n + 1) bs)) }
+
+    pub passed-closed : closes (getD bs n 0) (getD bs (n + 1) 0) ≡ true → n + 2 ≡ to-close bs
+    passed-closed e = sym (ahead e)
+
+  pub passed-all : {n : ℕ} → length bs ≤ n + 1 → Passed bs n → 0 ≡ to-close bs
+  passed-all {n} h p = sym (p .so-far ∙ ap (beyond n) (one-byte (drop n bs) (simp length-drop (omega arith))))

@@ -1,0 +1,42 @@
+-- `blanks::line_comment` meets its contract: two bytes, and the bytes in a row that end no line.
+-- A run stays in the rest after the two bytes, so the sum fits. Assumes nothing.
+use mathlib.Core.Path.{_≡_, ap, _∙_}
+use Prim.Native.Nat.{ℕ, _+_}
+use native.Mathlib.Omega.{arith}
+use borrow.Author.Needs.{needs}
+use lib.ListN.{drop, length-drop}
+use Rattle.text.specs.Blanks.{line-comment}
+use Rattle.text.specs.Bytes.{run, in-line}
+use Rattle.text.specs.declared.Lexeme.the-variants.{Blank}
+use Rattle.text.proofs.Rests.{rest}
+use Rattle.text.proofs.Runs.{run-within}
+use Rattle.blanks.proofs.line_comment.Statement.{statement}
+use Rattle.blanks.proofs.line_comment.Tie as tie
+
+sub-run-of : tie.Need-sub-run-of
+sub-run-of c = search needs
+
+part-run-of-start : tie.Need-part-run-of-start
+part-run-of-start c = search needs
+
+part-run-of-end : tie.Need-part-run-of-end
+part-run-of-end c = search needs
+
+run-of-requires : tie.Need-run-of-requires
+run-of-requires c κs = search needs
+
+ran : (c : tie.After-run-of) → c .run-of .result ≡ run in-line (drop 2 (c .before .before .before .args .bs .now))
+ran c = c .run-of .ensures ∙ ap (run in-line) (rest (c .before .before .before .args .bs .now) 2)
+
+add-t8 : tie.Need-add-t8
+add-t8 c =
+    omega (arith, ran c, run-within in-line (drop 2 (c .before .before .before .args .bs .now)), length-drop 2 (c .before .before .before .args .bs .now))
+
+returns : tie.Need-returns
+unfolding line-comment
+returns c = ap (λ (n : ℕ). Blank (2 + n)) (ran c)
+
+pub line-comment-spec : {M : Type 1} → statement M
+line-comment-spec =
+    tie.close
+    (tie.spec sub-run-of part-run-of-start part-run-of-end run-of-requires add-t8 returns)

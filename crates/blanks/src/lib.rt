@@ -1,0 +1,44 @@
+// Comments, at the front of the rest of a text.
+ghost use mathlib.Core.Path.{_≡_};
+ghost use Prim.Native.Nat.{_≤_};
+ghost use lib.ListN.{length};
+ghost use Rattle.text.specs.Blanks.{line-comment, block-comment, to-close};
+use text::Class;
+use text::Lexeme;
+
+// From // to byte 10, byte 13 or the end of the text.
+pub fn line_comment(bs: &[u8]) -> Lexeme
+    requires { ⌜ 2 ≤ length (now bs) ⌝ }
+    ensures { λ r. ⌜ r ≡ line-comment (now (bs .entry)) ⌝ }
+{
+    Lexeme::Blank(2 + text::run_of(Class::InLine, &bs[2..]))
+}
+
+// How many bytes there are to the end of the next */; 0 where there is none.
+fn to_close(bs: &[u8]) -> usize
+    ensures { λ r. ⌜ r ≡ to-close (now (bs .entry)) ⌝ }
+{
+    let mut n = 0;
+    while n + 1 < bs.len() {
+        if bs[n] == b'*' {
+            if bs[n + 1] == b'/' {
+                return n + 2;
+            }
+        }
+        n += 1;
+    }
+    0
+}
+
+// From /* to the next */, or open at the end of the text.
+pub fn block_comment(bs: &[u8]) -> Lexeme
+    requires { ⌜ 2 ≤ length (now bs) ⌝ }
+    ensures { λ r. ⌜ r ≡ block-comment (now (bs .entry)) ⌝ }
+{
+    let n = to_close(&bs[2..]);
+    if n == 0 {
+        Lexeme::Open
+    } else {
+        Lexeme::Blank(2 + n)
+    }
+}
