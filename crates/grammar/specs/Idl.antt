@@ -241,7 +241,7 @@ published =
     ("element_spec" ::= < "type_spec" > ▸ < "declarator" >) ∷
     -- (78) repaired: the missing "zero or more"
     ("enum_type" ::=
-    ` "enum" ▸ < "identifier" > ▸ ` "{" ▸ < "enumerator" > ▸ (` "," ▸ < "enumerator" >) * ▸ ` "}*") ∷
+    ` "enum" ▸ < "identifier" > ▸ ` "{" ▸ < "enumerator" > ▸ (` "," ▸ < "enumerator" >) * ▸ ` "}") ∷
     -- (79)
     ("enumerator" ::= < "identifier" >) ∷
     -- (80)

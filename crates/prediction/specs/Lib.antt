@@ -16,3 +16,9 @@ pub mod Equivalence
 pub mod RulesAsPlans
 pub mod Weight
 pub mod Parser
+pub mod Columns
+pub mod Check
+pub mod Planning
+pub mod PlanNotation
+pub mod IdlPlans
+pub mod IdlChecked

@@ -11,7 +11,6 @@ use Rattle.prediction.specs.Plan.{Plan, token, group, call, wrap, seq, a
 use Rattle.prediction.specs.Plan.{plan-group, plan-call, plan-wrap, plan-seq, plan-left, plan-right, plan-skip}
 use Rattle.prediction.specs.Plan.{plan-none, plan-more}
 use Rattle.prediction.specs.Typing.{Table}
-use Rattle.prediction.specs.Equivalence.{fits}
 
 -- nodes less 32 for each token, plus 1000
 unfoldable pub weight : (ℕ → ℕ) → Plan → ℕ
@@ -35,14 +34,14 @@ weighed cap (alt a b) = weighed cap a && weighed cap b
 weighed cap skip = true
 weighed cap (many a) = weighed cap a && leb (weight cap a) 1000
 
-module _ (t : Table) (s : ℕ → ℕ) (cap : ℕ → ℕ) (plan-typed : (n : ℕ) → T (weighed cap (t .plan n)))
-    (fits : (n : ℕ) → weight cap (t .plan n) ≤ cap n) where
+module _ (t : Table) (s : ℕ → ℕ) (cap : ℕ → ℕ) (all-weighed : (n : ℕ) → T (weighed cap (t .plan n)))
+    (capped : (n : ℕ) → weight cap (t .plan n) ≤ cap n) where
   pub weighs : {p : Plan} {i j : ℕ} {f g : Forest} → T (weighed cap p) → PlanDerives (t .plan) s p i j f g →
       nodes g + 1000 + 32 * i ≤ nodes f + weight cap p + 32 * j
   unfolding nodes weight weighed
   weighs u (plan-token e) = omega arith
   weighs u (plan-group e d e′) = let h = weighs u d in omega arith
-  weighs u (plan-call {n = n} {f = f} {h = h} d e) = let x = weighs (plan-typed n) d in let y = fits n in
+  weighs u (plan-call {n = n} {f = f} {h = h} d e) = let x = weighs (all-weighed n) d in let y = capped n in
       let z = nodes-join f h in let w = ap nodes e in omega arith
   weighs u plan-wrap = omega arith
   weighs u (plan-seq {a = a} {b = b} x y) = let h = weighs (and-left (weighed cap a) (weighed cap b) u) x in

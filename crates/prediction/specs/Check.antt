@@ -1,0 +1,151 @@
+-- The test of an edition's plans: computed once, it gives every theorem for that edition.
+-- Definitions, and what the test says of each frame, by one law over the list.
+use Prim.Native.Nat.{ℕ, suc, _≤_}
+use mathlib.Core.Path.{_≡_}
+use mathlib.Core.Bool.{Bool, true, not, _&&_}
+use mathlib.Core.List.{List, [], _∷_}
+use native.Mathlib.Omega.{arith}
+use lib.Dec.{T, eqb, T-not, eqb→eq}
+use lib.ListN.{length}
+use Rattle.grammar.specs.Rule.{Edition, right-side}
+use Rattle.grammar.specs.Sets.{elem}
+use Rattle.prediction.specs.Sets.{and-left, and-right, only, subset, disjoint}
+use Rattle.prediction.specs.Plan.{Plan, call, wrap, seq, skip}
+use Rattle.prediction.specs.Typing.{Table, null, first, follow-last, typed, Typed}
+use Rattle.prediction.specs.Word.{Generates, produces, productive, generate}
+use Rattle.prediction.specs.RunDepth.{marked}
+use Rattle.prediction.specs.Equivalence.{Way, fits}
+use Rattle.prediction.specs.RulesAsPlans.{as-plan, rule-plan}
+use Rattle.prediction.specs.Weight.{weight, weighed}
+use Rattle.prediction.specs.Parser.{left-within, left-founded}
+use Rattle.prediction.specs.Columns.{plan-at, round, caps, implies, settled, every, every-at, cap-at, Settled}
+use Rattle.prediction.specs.Columns.{settled-parts}
+
+-- plans by rule number, and how each comes from its rule
+pub record Prediction : Type 0 where
+  pub plans : List Plan
+  pub ways : List Way
+
+-- rounds enough for any edition: the test fails where they are not
+abbrev pub rounds : ℕ
+rounds = 20
+
+unfoldable pub table : Prediction → Table
+unfolding round
+table p = round (p .plans) (suc rounds)
+
+unfoldable pub frame-test : Prediction → Plan → Bool
+unfolding round settled productive left-founded caps table plan-at
+frame-test p =
+    settled (round (p .plans) rounds) (table p) (productive (plan-at (p .plans)) rounds)
+    (left-founded (table p) rounds)
+    (caps (p .plans) rounds) (caps (p .plans) (suc rounds))
+
+-- the rule and the plan of each number from n on derive the same
+unfoldable pub fit-from : (rule plan : ℕ → Plan) → ℕ → List Way → Bool
+unfolding fits
+fit-from r p n [] = true
+fit-from r p n (w ∷ ws) = fits r p n w && fit-from r p (suc n) ws
+
+unfoldable pub passes : Edition → Prediction → Bool
+unfolding frame-test every fit-from as-plan right-side plan-at follow-last table elem
+passes E p =
+    every (frame-test p) (p .plans) &&
+    (fit-from (rule-plan E) (plan-at (p .plans)) 0 (p .ways) &&
+    ((eqb (length (E .rules)) (length (p .ways)) && eqb (length (p .plans)) (length (p .ways))) &&
+    not (elem 0 (follow-last (table p) (call (E .start))))))
+
+pub record Checked (E : Edition) : Type 0 where
+  pub prediction : Prediction
+  pub passed : T (passes E prediction)
+
+module _ {E : Edition} (c : Checked E) where
+  abbrev pub plans-of : List Plan
+  plans-of = c .prediction .plans
+
+  abbrev pub table-of : Table
+  table-of = table (c .prediction)
+
+  frames-pass : T (every (frame-test (c .prediction)) plans-of)
+  unfolding passes
+  frames-pass = and-left (every (frame-test (c .prediction)) plans-of) _ (c .passed)
+
+  rest-pass : T (fit-from (rule-plan E) (plan-at plans-of) 0 (c .prediction .ways) &&
+      ((eqb (length (E .rules)) (length (c .prediction .ways)) && eqb (length plans-of)
+      (length (c .prediction .ways))) &&
+      not (elem 0 (follow-last table-of (call (E .start))))))
+  unfolding passes
+  rest-pass = and-right (every (frame-test (c .prediction)) plans-of) _ (c .passed)
+
+  frame-passes : (n : ℕ) → T (frame-test (c .prediction) (plan-at plans-of n))
+  unfolding frame-test plan-at table typed null first follow-last subset marked produces left-within weight weighed
+      implies settled disjoint only
+  frame-passes n = every-at (frame-test (c .prediction)) plans-of (seq skip (wrap n)) tt frames-pass n
+
+  settled-at : (n : ℕ) → Settled (round plans-of rounds) table-of (productive (plan-at plans-of) rounds)
+      (left-founded table-of rounds)
+      (caps plans-of rounds) (caps plans-of (suc rounds)) (plan-at plans-of n)
+  unfolding frame-test
+  settled-at n =
+      settled-parts (round plans-of rounds) table-of (productive (plan-at plans-of) rounds)
+      (left-founded table-of rounds)
+      (caps plans-of rounds) (caps plans-of (suc rounds)) (plan-at plans-of n) (frame-passes n)
+
+  pub all-typed : Typed table-of
+  unfolding table round
+  all-typed = record {
+    plan-typed = λ n. settled-at n .well-typed;
+    null-holds = λ n. settled-at n .null-kept;
+    first-holds = λ n. settled-at n .first-kept;
+    follow-last-holds = λ n. settled-at n .follow-last-kept;
+  }
+
+  pub null-exactly : (n : ℕ) → T (table-of .null-of n) → T (null table-of (table-of .plan n))
+  unfolding table round
+  null-exactly n = settled-at n .null-exact
+
+  pub all-marked : (n : ℕ) → T (marked (table-of .plan n))
+  unfolding table round
+  all-marked n = settled-at n .well-marked
+
+  pub all-generate : (p : Plan) → Generates table-of p
+  unfolding table round productive
+  all-generate = generate table-of (suc rounds) (λ n. settled-at n .produced-kept)
+
+  pub all-founded : (n : ℕ) → T (left-founded table-of (suc rounds) n)
+  unfolding table round left-founded
+  all-founded n = settled-at n .founded-kept
+
+  pub all-weighed : (n : ℕ) → T (weighed (caps plans-of (suc rounds)) (table-of .plan n))
+  unfolding table round
+  all-weighed n = settled-at n .well-weighed
+
+  pub all-capped : (n : ℕ) → weight (caps plans-of (suc rounds)) (table-of .plan n) ≤ caps plans-of (suc rounds) n
+  unfolding table round
+  all-capped n = let e = cap-at plans-of rounds n in let h = settled-at n .weight-kept in omega arith
+
+  ends-pass : T ((eqb (length (E .rules)) (length (c .prediction .ways)) && eqb (length plans-of)
+      (length (c .prediction .ways))) &&
+      not (elem 0 (follow-last table-of (call (E .start)))))
+  ends-pass = and-right (fit-from (rule-plan E) (plan-at plans-of) 0 (c .prediction .ways)) _ rest-pass
+
+  -- no kind of a token is 0, and nothing goes on a specification there
+  pub ends-at-zero : T (elem 0 (follow-last table-of (call (E .start)))) → ⊥
+  ends-at-zero = T-not (elem 0 (follow-last table-of (call (E .start))))
+      (and-right (eqb (length (E .rules)) (length (c .prediction .ways)) && eqb (length plans-of)
+      (length (c .prediction .ways))) _ ends-pass)
+
+  pub rules-long : length (E .rules) ≡ length (c .prediction .ways)
+  rules-long = eqb→eq (length (E .rules)) (length (c .prediction .ways))
+      (and-left (eqb (length (E .rules)) (length (c .prediction .ways))) _
+      (and-left (eqb (length (E .rules)) (length (c .prediction .ways)) && eqb (length plans-of)
+      (length (c .prediction .ways))) _ ends-pass))
+
+  pub plans-long : length plans-of ≡ length (c .prediction .ways)
+  plans-long = eqb→eq (length plans-of) (length (c .prediction .ways))
+      (and-right (eqb (length (E .rules)) (length (c .prediction .ways))) _
+      (and-left (eqb (length (E .rules)) (length (c .prediction .ways)) && eqb (length plans-of)
+      (length (c .prediction .ways))) _ ends-pass))
+
+  pub all-fit : T (fit-from (rule-plan E) (plan-at plans-of) 0 (c .prediction .ways))
+  all-fit = and-left (fit-from (rule-plan E) (plan-at plans-of) 0 (c .prediction .ways)) _ rest-pass

@@ -1,0 +1,43 @@
+-- Plans as they are written by hand: as rules are in the papers, with `make` where what was read so far becomes a node.
+-- Definitions alone.
+use Prim.Native.Nat.{ℕ, zero, suc}
+use Prim.Native.String.{String}
+use mathlib.Core.List.{List}
+use Rattle.grammar.specs.Depth.{opening}
+use Rattle.grammar.specs.Notation.{_+, _::=_, token-names, place, places}
+use Rattle.prediction.specs.Plan.{Plan, token, call, wrap, seq, alt, skip, many}
+use Rattle.prediction.specs.Equivalence.{opens}
+use Rattle.prediction.specs.Planning.{grouped, Sketch}
+
+infix 60 `_
+infix 55 _*
+infixr 40 _▸_
+infixr 30 _∣_
+pub data Drawn : Type 0 where
+  `_ : String → Drawn
+  <_> : String → Drawn
+  make : String → Drawn
+  _▸_ : Drawn → Drawn → Drawn
+  _∣_ : Drawn → Drawn → Drawn
+  ⟦_⟧ : Drawn → Drawn
+  _* : Drawn → Drawn
+
+unfoldable pub called : (token rule : ℕ) → Plan
+called zero r = call r
+called (suc k) r = token (suc k)
+
+module _ (kind : String → ℕ) (rules : List String) where
+  unfoldable pub drawn : Drawn → Plan
+  unfolding token-names place called
+  drawn (` w) = token (kind w)
+  drawn (< w >) = called (place w token-names) (place w rules)
+  drawn (make w) = wrap (place w rules)
+  drawn (a ▸ b) = seq (drawn a) (drawn b)
+  drawn (a ∣ b) = alt (drawn a) (drawn b)
+  drawn (⟦ a ⟧) = alt (drawn a) skip
+  drawn (a *) = many (drawn a)
+
+  -- the sketch of a rule's plan, opening the rules of these names where they stand first
+  unfoldable pub sketch : (rule : String) (opening : List String) → Drawn → Sketch
+  unfolding place places drawn grouped
+  sketch r os p = record { rule = place r rules; opens = places os rules; follows = grouped (drawn p) }
