@@ -5,7 +5,7 @@ use mathlib.Core.Path.{_≡_}
 use mathlib.Core.Bool.{Bool, true, not, _&&_}
 use mathlib.Core.List.{List, [], _∷_}
 use native.Mathlib.Omega.{arith}
-use lib.Dec.{T, eqb, T-not, eqb→eq}
+use lib.Dec.{T, eqb, leb, T-not, eqb→eq, leb→le}
 use lib.ListN.{length}
 use Rattle.grammar.specs.Rule.{Edition, right-side}
 use Rattle.grammar.specs.Sets.{elem}
@@ -47,13 +47,29 @@ unfolding fits
 fit-from r p n [] = true
 fit-from r p n (w ∷ ws) = fits r p n w && fit-from r p (suc n) ws
 
+-- each plan keeps its claims
+unfoldable pub plans-settled : Prediction → Bool
+unfolding frame-test every
+plans-settled p = every (frame-test p) (p .plans)
+
+-- the rules and the plans derive the same
+unfoldable pub rules-fit : Edition → Prediction → Bool
+unfolding fit-from as-plan right-side plan-at
+rules-fit E p = fit-from (rule-plan E) (plan-at (p .plans)) 0 (p .ways)
+
+-- there are as many plans, and ways, as rules
+unfoldable pub lengths-agree : Edition → Prediction → Bool
+lengths-agree E p = eqb (length (E .rules)) (length (p .ways)) && eqb (length (p .plans)) (length (p .ways))
+
+-- the end, whose kind is 0, goes on no text, and a text weighs no more than its tokens
+unfoldable pub whole-ends : Edition → Prediction → Bool
+unfolding follow-last table elem caps
+whole-ends E p =
+    not (elem 0 (follow-last (table p) (call (E .start)))) && leb (caps (p .plans) (suc rounds) (E .start)) 1000
+
 unfoldable pub passes : Edition → Prediction → Bool
-unfolding frame-test every fit-from as-plan right-side plan-at follow-last table elem
-passes E p =
-    every (frame-test p) (p .plans) &&
-    (fit-from (rule-plan E) (plan-at (p .plans)) 0 (p .ways) &&
-    ((eqb (length (E .rules)) (length (p .ways)) && eqb (length (p .plans)) (length (p .ways))) &&
-    not (elem 0 (follow-last (table p) (call (E .start))))))
+unfolding plans-settled rules-fit lengths-agree whole-ends
+passes E p = plans-settled p && (rules-fit E p && (lengths-agree E p && whole-ends E p))
 
 pub record Checked (E : Edition) : Type 0 where
   pub prediction : Prediction
@@ -66,21 +82,25 @@ module _ {E : Edition} (c : Checked E) where
   abbrev pub table-of : Table
   table-of = table (c .prediction)
 
-  frames-pass : T (every (frame-test (c .prediction)) plans-of)
+  settled-passed : T (plans-settled (c .prediction))
   unfolding passes
-  frames-pass = and-left (every (frame-test (c .prediction)) plans-of) _ (c .passed)
+  settled-passed = and-left (plans-settled (c .prediction)) _ (c .passed)
 
-  rest-pass : T (fit-from (rule-plan E) (plan-at plans-of) 0 (c .prediction .ways) &&
-      ((eqb (length (E .rules)) (length (c .prediction .ways)) && eqb (length plans-of)
-      (length (c .prediction .ways))) &&
-      not (elem 0 (follow-last table-of (call (E .start))))))
+  fit-passed : T (rules-fit E (c .prediction) && (lengths-agree E (c .prediction) && whole-ends E (c .prediction)))
   unfolding passes
-  rest-pass = and-right (every (frame-test (c .prediction)) plans-of) _ (c .passed)
+  fit-passed = and-right (plans-settled (c .prediction)) _ (c .passed)
+
+  ends-passed : T (lengths-agree E (c .prediction) && whole-ends E (c .prediction))
+  ends-passed = and-right (rules-fit E (c .prediction)) _ fit-passed
+
+  frames-of : T (plans-settled (c .prediction)) → T (every (frame-test (c .prediction)) plans-of)
+  unfolding plans-settled
+  frames-of u = u
 
   frame-passes : (n : ℕ) → T (frame-test (c .prediction) (plan-at plans-of n))
   unfolding frame-test plan-at table typed null first follow-last subset marked produces left-within weight weighed
       implies settled disjoint only
-  frame-passes n = every-at (frame-test (c .prediction)) plans-of (seq skip (wrap n)) tt frames-pass n
+  frame-passes n = every-at (frame-test (c .prediction)) plans-of (seq skip (wrap n)) tt (frames-of settled-passed) n
 
   settled-at : (n : ℕ) → Settled (round plans-of rounds) table-of (productive (plan-at plans-of) rounds)
       (left-founded table-of rounds)
@@ -124,28 +144,35 @@ module _ {E : Edition} (c : Checked E) where
   unfolding table round
   all-capped n = let e = cap-at plans-of rounds n in let h = settled-at n .weight-kept in omega arith
 
-  ends-pass : T ((eqb (length (E .rules)) (length (c .prediction .ways)) && eqb (length plans-of)
-      (length (c .prediction .ways))) &&
-      not (elem 0 (follow-last table-of (call (E .start)))))
-  ends-pass = and-right (fit-from (rule-plan E) (plan-at plans-of) 0 (c .prediction .ways)) _ rest-pass
-
-  -- no kind of a token is 0, and nothing goes on a specification there
+  -- the end goes on no text
   pub ends-at-zero : T (elem 0 (follow-last table-of (call (E .start)))) → ⊥
-  ends-at-zero = T-not (elem 0 (follow-last table-of (call (E .start))))
-      (and-right (eqb (length (E .rules)) (length (c .prediction .ways)) && eqb (length plans-of)
-      (length (c .prediction .ways))) _ ends-pass)
+  unfolding whole-ends
+  ends-at-zero =
+      T-not (elem 0 (follow-last table-of (call (E .start))))
+      (and-left (not (elem 0 (follow-last table-of (call (E .start))))) _
+      (and-right (lengths-agree E (c .prediction)) _ ends-passed))
+
+  pub start-capped : caps plans-of (suc rounds) (E .start) ≤ 1000
+  unfolding whole-ends
+  start-capped =
+      leb→le (caps plans-of (suc rounds) (E .start)) 1000
+      (and-right (not (elem 0 (follow-last table-of (call (E .start))))) _
+      (and-right (lengths-agree E (c .prediction)) _ ends-passed))
 
   pub rules-long : length (E .rules) ≡ length (c .prediction .ways)
-  rules-long = eqb→eq (length (E .rules)) (length (c .prediction .ways))
+  unfolding lengths-agree
+  rules-long =
+      eqb→eq (length (E .rules)) (length (c .prediction .ways))
       (and-left (eqb (length (E .rules)) (length (c .prediction .ways))) _
-      (and-left (eqb (length (E .rules)) (length (c .prediction .ways)) && eqb (length plans-of)
-      (length (c .prediction .ways))) _ ends-pass))
+      (and-left (lengths-agree E (c .prediction)) _ ends-passed))
 
   pub plans-long : length plans-of ≡ length (c .prediction .ways)
-  plans-long = eqb→eq (length plans-of) (length (c .prediction .ways))
+  unfolding lengths-agree
+  plans-long =
+      eqb→eq (length plans-of) (length (c .prediction .ways))
       (and-right (eqb (length (E .rules)) (length (c .prediction .ways))) _
-      (and-left (eqb (length (E .rules)) (length (c .prediction .ways)) && eqb (length plans-of)
-      (length (c .prediction .ways))) _ ends-pass))
+      (and-left (lengths-agree E (c .prediction)) _ ends-passed))
 
   pub all-fit : T (fit-from (rule-plan E) (plan-at plans-of) 0 (c .prediction .ways))
-  all-fit = and-left (fit-from (rule-plan E) (plan-at plans-of) 0 (c .prediction .ways)) _ rest-pass
+  unfolding rules-fit
+  all-fit = and-left (rules-fit E (c .prediction)) _ fit-passed

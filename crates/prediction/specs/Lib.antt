@@ -22,3 +22,8 @@ pub mod Planning
 pub mod PlanNotation
 pub mod IdlPlans
 pub mod IdlChecked
+pub mod SamePlans
+pub mod Verdict
+pub mod Bound
+pub mod Theorems
+pub mod Samples

@@ -41,12 +41,12 @@ carry t s s′ (plan-more a b) w =
 
 -- kinds that agree with s before n, and a derivation over them that reaches n
 pub record Viable (t : Table) (s : ℕ → ℕ) (p : Plan) (i : ℕ) (f : Forest) (n : ℕ) : Type 0 where
-  pub kind-at : ℕ → ℕ
-  pub agree : (q : ℕ) → q < n → kind-at q ≡ s q
+  pub kinds : ℕ → ℕ
+  pub agree : (q : ℕ) → q < n → kinds q ≡ s q
   pub till : ℕ
   pub far : n ≤ till
   pub forest : Forest
-  pub der : PlanDerives (t .plan) kind-at p i till f forest
+  pub derives : PlanDerives (t .plan) kinds p i till f forest
 
 -- how far the kinds of s are still good
 unfoldable pub reach : Outcome → ℕ
@@ -67,28 +67,28 @@ module _ (t : Table) (every : (p : Plan) → Generates t p) (s : ℕ → ℕ) wh
       let x = every p in
       let y = x .makes (put s i (x .word)) i f (put-at s i (x .word)) in
       record {
-        kind-at = put s i (x .word);
+        kinds = put s i (x .word);
         agree = λ q h. put-off s i (x .word) q h;
         till = past i (x .word);
         far =
             past-forward i (x .word);
         forest = y .0;
-        der = y .1;
+        derives = y .1;
       }
 
   -- a word of b set down behind
   behind : {a : Plan} {i n : ℕ} {f : Forest} (b : Plan) → Viable t s a i f n → Viable t s (seq a b) i f n
   behind {n = n} b v =
       let x = every b in
-      let z = put (v .kind-at) (v .till) (x .word) in
-      let y = x .makes z (v .till) (v .forest) (put-at (v .kind-at) (v .till) (x .word)) in
+      let z = put (v .kinds) (v .till) (x .word) in
+      let y = x .makes z (v .till) (v .forest) (put-at (v .kinds) (v .till) (x .word)) in
       record {
-        kind-at = z;
-        agree = λ q h. put-off (v .kind-at) (v .till) (x .word) q (omega (arith, v .far)) ∙ v .agree q h;
+        kinds = z;
+        agree = λ q h. put-off (v .kinds) (v .till) (x .word) q (omega (arith, v .far)) ∙ v .agree q h;
         till = past (v .till) (x .word);
         far = omega (arith, v .far, past-forward (v .till) (x .word));
         forest = y .0;
-        der = plan-seq (carry t (v .kind-at) z (v .der) (λ q a b. put-off (v .kind-at) (v .till) (x .word) q b))
+        derives = plan-seq (carry t (v .kinds) z (v .derives) (λ q a b. put-off (v .kinds) (v .till) (x .word) q b))
             (y .1);
       }
 
@@ -96,13 +96,13 @@ module _ (t : Table) (every : (p : Plan) → Generates t p) (s : ℕ → ℕ) wh
   front : {a b : Plan} {i m n : ℕ} {f h : Forest} → m ≤ n → PlanDerives (t .plan) s a i m f h → Viable t s b m h n →
       Viable t s (seq a b) i f n
   front l d v = record {
-    kind-at = v .kind-at;
+    kinds = v .kinds;
     agree = v .agree;
     till = v .till;
     far = v .far;
     forest =
         v .forest;
-    der = plan-seq (carry t s (v .kind-at) d (λ q a b. v .agree q (omega arith))) (v .der);
+    derives = plan-seq (carry t s (v .kinds) d (λ q a b. v .agree q (omega arith))) (v .derives);
   }
 
   -- the body of a group, and its end set down behind
@@ -110,71 +110,71 @@ module _ (t : Table) (every : (p : Plan) → Generates t p) (s : ℕ → ℕ) wh
       Viable t s (group o b c) i f n
   unfolding Reads past
   closed o c {i = i} {n = n} e l v =
-      let z = put (v .kind-at) (v .till) (c ∷ []) in
-      let r = put-at (v .kind-at) (v .till) (c ∷ []) in
+      let z = put (v .kinds) (v .till) (c ∷ []) in
+      let r = put-at (v .kinds) (v .till) (c ∷ []) in
       record {
-        kind-at = z;
-        agree = λ q h. put-off (v .kind-at) (v .till) (c ∷ []) q (omega (arith, v .far)) ∙ v .agree q h;
+        kinds = z;
+        agree = λ q h. put-off (v .kinds) (v .till) (c ∷ []) q (omega (arith, v .far)) ∙ v .agree q h;
         till = suc (v .till);
         far = omega (arith, v .far);
         forest = leaf (v .forest) c;
-        der = plan-group (put-off (v .kind-at) (v .till) (c ∷ []) i (omega (arith, v .far)) ∙ (v .agree i l ∙ e))
-            (carry t (v .kind-at) z (v .der) (λ q a b. put-off (v .kind-at) (v .till) (c ∷ []) q b)) (r .0);
+        derives = plan-group (put-off (v .kinds) (v .till) (c ∷ []) i (omega (arith, v .far)) ∙ (v .agree i l ∙ e))
+            (carry t (v .kinds) z (v .derives) (λ q a b. put-off (v .kinds) (v .till) (c ∷ []) q b)) (r .0);
       }
 
   to-left : {a b : Plan} {i n : ℕ} {f : Forest} → Viable t s a i f n → Viable t s (alt a b) i f n
   to-left v = record {
-    kind-at = v .kind-at;
+    kinds = v .kinds;
     agree = v .agree;
     till = v .till;
     far = v .far;
     forest = v .forest;
-    der =
-        plan-left (v .der);
+    derives =
+        plan-left (v .derives);
   }
 
   to-right : {a b : Plan} {i n : ℕ} {f : Forest} → Viable t s b i f n → Viable t s (alt a b) i f n
   to-right v = record {
-    kind-at = v .kind-at;
+    kinds = v .kinds;
     agree = v .agree;
     till = v .till;
     far = v .far;
     forest =
         v .forest;
-    der = plan-right (v .der);
+    derives = plan-right (v .derives);
   }
 
   to-call : {k i n : ℕ} {f : Forest} → Viable t s (t .plan k) i end n → Viable t s (call k) i f n
   to-call {f = f} v = record {
-    kind-at = v .kind-at;
+    kinds = v .kinds;
     agree = v .agree;
     till = v .till;
     far = v .far;
     forest =
         join f (v .forest);
-    der = plan-call (v .der) refl;
+    derives = plan-call (v .derives) refl;
   }
 
   to-many : {a : Plan} {i n : ℕ} {f : Forest} → Viable t s a i f n → Viable t s (many a) i f n
   to-many v = record {
-    kind-at = v .kind-at;
+    kinds = v .kinds;
     agree = v .agree;
     till = v .till;
     far = v .far;
     forest = v .forest;
-    der =
-        plan-more (v .der) plan-none;
+    derives =
+        plan-more (v .derives) plan-none;
   }
 
   from-seq : {a : Plan} {i n : ℕ} {f : Forest} → Viable t s (seq a (many a)) i f n → Viable t s (many a) i f n
   from-seq v = record {
-    kind-at = v .kind-at;
+    kinds = v .kinds;
     agree = v .agree;
     till = v .till;
     far = v .far;
     forest =
         v .forest;
-    der = turn (v .der);
+    derives = turn (v .derives);
   }
     where
       turn : {s′ : ℕ → ℕ} {a : Plan} {i j : ℕ} {f g : Forest} → PlanDerives (t .plan) s′ (seq a (many a)) i j f g →
@@ -184,7 +184,7 @@ module _ (t : Table) (every : (p : Plan) → Generates t p) (s : ℕ → ℕ) wh
   -- the derivation that the parser found
   found : {p : Plan} {i j : ℕ} {f g : Forest} → PlanDerives (t .plan) s p i j f g → Viable t s p i f j
   found {j = j} {g = g} d =
-      record { kind-at = s; agree = λ q h. refl; till = j; far = omega arith; forest = g; der = d }
+      record { kinds = s; agree = λ q h. refl; till = j; far = omega arith; forest = g; derives = d }
 
   pub stays-viable : {d i : ℕ} {p : Plan} {f : Forest} {x : Outcome} → Runs t s d p i f x → Viable t s p i f (reach x)
   unfolding reach stopped stop
