@@ -1,15 +1,14 @@
 -- How far a comment reaches: past its first byte, and not past the end of the text.
 -- A run and the search of */ stay in the rest after the first two bytes. Assumes nothing.
-use mathlib.Core.Path.{_≡_, ap}
 use mathlib.Core.Bool.{Bool, true, false, cond}
 use mathlib.Core.List.{List, [], _∷_}
-use Prim.Native.Nat.{ℕ, zero, suc, _+_, _≤_, _<_}
+use Prim.Native.Nat.{ℕ, zero, suc, _+_, _≤_}
 use native.Mathlib.Omega.{arith}
 use lib.ListN.{length, drop, length-drop}
 use Rattle.text.specs.Bytes.{run, in-line}
 use Rattle.text.specs.Blanks.{line-comment, block-comment, closed, further, to-close}
-use Rattle.text.specs.declared.Lexeme.the-variants.{Blank}
 use Rattle.text.proofs.Runs.{run-within}
+use Rattle.text.proofs.Sizes.{Sized}
 use Rattle.blanks.proofs.Closing.{closes, one-byte}
 
 -- one byte more to the next */ is one byte more of text
@@ -25,19 +24,16 @@ close-within [] = omega arith
 close-within (b ∷ []) = let none = one-byte (b ∷ []) (omega arith) in omega arith
 close-within (b ∷ c ∷ bs) = close-step (closes b c) (to-close (c ∷ bs)) (close-within (c ∷ bs))
 
-closed-size : (k : ℕ) {n : ℕ} → closed k ≡ Blank n → 2 + k ≡ n
+closed-sized : (n : ℕ) {most : ℕ} → 2 + n ≤ most → Sized most (closed n)
 unfolding closed
-closed-size zero e = absurd (let z : _≡_ {A = ℕ} 0 1 = cc in omega arith)
-closed-size (suc k) e = cc
+closed-sized zero h = tt
+closed-sized (suc n) h = omega arith
 
-module _ (bs : List ℕ) (two : 2 ≤ length bs) {n : ℕ} where
-  pub line-comment-within : line-comment bs ≡ Blank n → (0 < n) × (n ≤ length bs)
+module _ (bs : List ℕ) (two : 2 ≤ length bs) where
+  pub line-comment-sized : Sized (length bs) (line-comment bs)
   unfolding line-comment
-  line-comment-within e =
-      let size : 2 + run in-line (drop 2 bs) ≡ n = cc in
-      omega (arith, run-within in-line (drop 2 bs), length-drop 2 bs)
+  line-comment-sized = omega (arith, run-within in-line (drop 2 bs), length-drop 2 bs)
 
-  pub block-comment-within : block-comment bs ≡ Blank n → (0 < n) × (n ≤ length bs)
+  pub block-comment-sized : Sized (length bs) (block-comment bs)
   unfolding block-comment
-  block-comment-within e =
-      omega (arith, closed-size (to-close (drop 2 bs)) e, close-within (drop 2 bs), length-drop 2 bs)
+  block-comment-sized = closed-sized (to-close (drop 2 bs)) (omega (arith, close-within (drop 2 bs), length-drop 2 bs))

@@ -1,3 +1,4 @@
 pub mod Ranges
 pub mod Rests
 pub mod Runs
+pub mod Sizes
