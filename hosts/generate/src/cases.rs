@@ -2,6 +2,7 @@
 
 use crate::damage::{any_kind, damage_kinds, damage_text, no_kind, raw_bytes};
 use crate::grammar::Grammar;
+use crate::nest::{nested, WAYS};
 use crate::random::Random;
 use crate::sentence::Sentences;
 use crate::text::{spell, Layout};
@@ -45,11 +46,17 @@ impl<'a> Cases<'a> {
         while (4..6).contains(&form) && random.once_in(2) {
             damage_text(&mut text, random);
         }
+        if random.once_in(2_000) {
+            text.resize(1_048_574 + random.below(5), b' ');
+        }
         text
     }
 
-    /// A valid list of kinds, mostly short.
+    /// A valid list of kinds, mostly short, now and then nested up to the depth ceiling or past it.
     pub fn kinds(&self, random: &mut Random) -> Vec<u32> {
+        if random.once_in(40) {
+            return nested(random.below(WAYS), random.below(70), self.grammar);
+        }
         let size = *random.pick(&[1, 4, 10, 25, 60, 150]);
         self.sentences.kinds(random, size, 60)
     }

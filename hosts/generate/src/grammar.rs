@@ -23,6 +23,13 @@ pub struct Grammar {
 const TEXT: &str = include_str!("../grammar.txt");
 
 impl Grammar {
+    /// The names of the rules, from rule 1 on.
+    pub fn names() -> Vec<String> {
+        let words = words(TEXT);
+        let name = |at: usize| words[at - 1].trim_matches(['<', '>']).to_string();
+        (0..words.len()).filter(|&at| words[at] == "::=").map(name).collect()
+    }
+
     /// The rules 1 to 99.
     pub fn published() -> Self {
         let words = words(TEXT);

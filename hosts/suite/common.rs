@@ -1,6 +1,6 @@
 //! What the tests share: a call with ample tables.
 
-use ordinary::{read, Reply};
+use super::reader::{read, Reply};
 
 pub struct Outcome {
     pub reply: Reply,
@@ -15,13 +15,11 @@ impl Outcome {
     }
 
     /// The kinds of the tokens of an accepted text.
-    #[allow(dead_code)]
     pub fn kinds(&self) -> Vec<u32> {
         self.tokens.chunks(3).take(self.reply.tokens as usize).map(|record| record[0]).collect()
     }
 
     /// The tree records of an accepted text.
-    #[allow(dead_code)]
     pub fn records(&self) -> Vec<[u32; 4]> {
         let records = self.tree.chunks(4).take(self.reply.records as usize);
         records.map(|record| [record[0], record[1], record[2], record[3]]).collect()

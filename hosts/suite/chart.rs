@@ -1,9 +1,9 @@
 //! The reader against the rules as data: acceptance, place of blame, tree, and the order of the replies.
 
+use super::reader::{read_tree, Reply};
 use generate::cases::{depth, table_length};
 use generate::kind::{CLOSING, OPENING};
 use generate::{Cases, Chart, Grammar, Meaning, Random};
-use ordinary::{number, read_tree, Reply};
 
 /// The answer that the scope page gives to a call of the tree part, from the limitless meaning of the list.
 fn answer(meaning: &Meaning, grammar: &Grammar, kinds: &[u32], text_length: usize, room: usize, depth: u32) -> Reply {
@@ -18,14 +18,12 @@ fn answer(meaning: &Meaning, grammar: &Grammar, kinds: &[u32], text_length: usiz
     };
     let marks = |spellings: [&str; 4]| spellings.map(|spelling| grammar.kinds.of(spelling));
     if let Some(token) = first_too_deep(&kinds[..blame], marks(OPENING), marks(CLOSING), depth) {
-        return reply(number::TOO_DEEP, token, 0);
+        return reply(8, token, 0);
     }
     match meaning {
-        Meaning::Blame(token) => reply(number::GRAMMAR, *token, 0),
-        Meaning::Records(records) if records.len() > room => {
-            reply(number::TREE_TABLE_FULL, kinds.len(), records.len() as u32)
-        }
-        Meaning::Records(records) => reply(number::ACCEPTED, kinds.len(), records.len() as u32),
+        Meaning::Blame(token) => reply(7, *token, 0),
+        Meaning::Records(records) if records.len() > room => reply(9, kinds.len(), records.len() as u32),
+        Meaning::Records(records) => reply(0, kinds.len(), records.len() as u32),
     }
 }
 
@@ -68,7 +66,7 @@ fn check(kinds: &[u32], chart: &Chart, grammar: &Grammar, random: &mut Random) {
     let wanted = answer(&meaning, grammar, kinds, text_length, tree.len() / 4, depth);
     assert_eq!(reply, wanted, "{kinds:?} with depth {depth}");
     let wanted_tree = match reply.number {
-        number::ACCEPTED => [&records[..], &garbage[records.len()..]].concat(),
+        0 => [&records[..], &garbage[records.len()..]].concat(),
         _ => vec![0; garbage.len()],
     };
     assert_eq!(tree, wanted_tree, "{kinds:?}");

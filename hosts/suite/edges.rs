@@ -1,10 +1,9 @@
 //! Limits: short tables, the ceilings of text and depth, every rule and every kind.
 
-mod common;
-use common::outcome;
+use super::common::outcome;
+use super::reader::{read, DEPTH_CEILING, TEXT_CEILING};
 use generate::text::{spell, Layout};
 use generate::{Cases, Grammar, Random};
-use ordinary::{read, read_tokens, DEPTH_CEILING, TEXT_CEILING};
 use std::collections::HashSet;
 
 #[test]
@@ -29,10 +28,7 @@ fn tables_of_any_length() {
 }
 
 #[test]
-fn faults_come_before_a_full_table() {
-    let mut tokens = [1; 2];
-    assert_eq!(read_tokens(b"a b c 08", &mut tokens).number, 4);
-    assert_eq!(tokens, [0, 0]);
+fn the_token_table_is_counted_before_the_grammar() {
     assert_eq!(read(b"a b c )", &mut [], &mut [], 1).tokens, 4);
 }
 
@@ -47,18 +43,7 @@ fn text_ceiling() {
     text.push(b' ');
     let before = (tokens, tree);
     assert_eq!(read(&text, &mut tokens, &mut tree, 64), read(b"", &mut [], &mut [], 0));
-    assert_eq!(read_tokens(&text, &mut tokens).number, 1);
     assert_eq!((tokens, tree), before);
-}
-
-#[test]
-fn as_many_tokens_as_bytes() {
-    let text = vec![b';'; TEXT_CEILING];
-    let mut tokens = vec![1; 3 * TEXT_CEILING];
-    assert_eq!(read_tokens(&text, &mut tokens).tokens as usize, TEXT_CEILING);
-    assert_eq!(tokens[tokens.len() - 3..], [64, TEXT_CEILING as u32 - 1, 1]);
-    assert_eq!(read_tokens(&text, &mut tokens[1..]).number, 6);
-    assert!(tokens[1..].iter().all(|&number| number == 0));
 }
 
 /// A constant with so many parentheses around it.
@@ -101,7 +86,7 @@ fn every_rule_and_every_kind_is_reached() {
     let mut random = Random::new(3);
     let (mut rules, mut kinds) = (HashSet::new(), HashSet::new());
     for _ in 0..2_000 {
-        let list = cases.kinds(&mut random);
+        let list = cases.sentences().kinds(&mut random, 60, 60);
         let text = spell(&list, &grammar, Layout::Wild, &mut random);
         let outcome = outcome(&text, 64);
         assert_eq!(outcome.reply.number, 0, "{}", text.escape_ascii());

@@ -1,13 +1,11 @@
-//! What the papers mean where a reader could stumble.
+//! What the papers mean by a lexeme and a fault, where a reader could stumble.
 
-mod common;
-use common::outcome;
-use ordinary::{read_tree, spelling};
+use super::reader::{read_tokens, spelling, TEXT_CEILING};
 
 /// The kinds of the tokens of a text, or the number and place of its fault.
 fn tokens(text: &[u8]) -> Result<Vec<u32>, (u32, u32)> {
     let mut table = vec![0; 3 * text.len()];
-    let reply = ordinary::read_tokens(text, &mut table);
+    let reply = read_tokens(text, &mut table);
     match reply.number {
         0 => Ok(table.chunks(3).take(reply.tokens as usize).map(|record| record[0]).collect()),
         number => Err((number, reply.place)),
@@ -24,17 +22,6 @@ fn assert_faults(texts: &[&[u8]], number: u32, place: u32) {
     }
 }
 
-fn blamed(text: &str) -> (u32, u32) {
-    let reply = outcome(text.as_bytes(), 64).reply;
-    (reply.number, reply.place)
-}
-
-fn rules(text: &str) -> Vec<u32> {
-    let outcome = outcome(text.as_bytes(), 64);
-    assert_eq!(outcome.reply.number, 0, "{text}");
-    outcome.records().iter().map(|record| record[0]).collect()
-}
-
 #[test]
 fn wide_literals() {
     assert_tokens("L'x' L\"x\" L", &[6, 8, 1]);
@@ -49,7 +36,7 @@ fn underscores() {
     assert_tokens("_a _L _interface _Interface _a1_", &[1, 1, 1, 1, 1]);
     assert_faults(&[b"_", b"_1", b"__a", b"_ a", b"_'a'"], 2, 0);
     let (text, mut table) = (b" _union", [0; 3]);
-    ordinary::read_tokens(text, &mut table);
+    read_tokens(text, &mut table);
     assert_eq!(table, [1, 1, 6]);
 }
 
@@ -137,81 +124,9 @@ fn marks() {
 }
 
 #[test]
-fn shifts_neither_open_nor_close() {
-    assert_eq!(blamed("typedef sequence<string<1>> T;"), (7, 29));
-    assert_eq!(outcome(b"const long A = (1 << 2 >> 3);", 1).reply.number, 0);
-}
-
-#[test]
 fn first_fault_by_start() {
     assert_eq!(tokens(b"'a' Interface 'ab'"), Err((5, 4)));
     assert_eq!(tokens(b"native A; /*"), Err((3, 10)));
-    assert_eq!(blamed("} Interface"), (5, 2));
-}
-
-#[test]
-fn recorded_as_used() {
-    assert_eq!(rules("struct A { long b; };"), [57, 51, 71, 69, 2, 1]);
-    assert_eq!(rules("struct A { any b; any c; };"), [67, 51, 71, 67, 51, 71, 70, 69, 2, 1]);
-    assert_eq!(rules("typedef A::B c, d[TRUE];"), [12, 12, 51, 40, 84, 83, 49, 43, 42, 2, 1]);
-    let operations = [7, 89, 90, 87, 9, 12, 92, 12, 51, 91, 90, 87, 9, 8, 5, 2, 1];
-    assert_eq!(rules("interface I { void f(); A g(in ::B c); };"), operations);
-    assert_eq!(rules("abstract valuetype A { };"), [16, 2, 1]);
-    assert_eq!(rules("interface I { };"), [7, 8, 5, 2, 1]);
-    assert_eq!(
-        rules("valuetype V supports A, B { factory f(in any a); };"),
-        [12, 12, 19, 18, 26, 67, 51, 25, 23, 17, 2, 1]
-    );
-    assert_eq!(rules("union U switch(A) { default: any a; };"), [12, 76, 67, 51, 77, 75, 72, 2, 1]);
-}
-
-#[test]
-fn empty_interface_body() {
-    let records = outcome(b"interface I { };", 64).records();
-    assert!(records.contains(&[8, 3, 3, 1]));
-}
-
-#[test]
-fn only_the_alternatives_of_the_rule() {
-    assert_eq!(blamed("union U switch(octet) { };"), (7, 15));
-    assert_eq!(blamed("union U switch(wchar) { };"), (7, 15));
-    assert_eq!(blamed("union U switch(long double) { };"), (7, 20));
-    assert_eq!(blamed("const fixed<1,2> A = 1;"), (7, 11));
-    assert_eq!(blamed("const any A = 1;"), (7, 6));
-    assert_eq!(blamed("typedef struct A B;"), (7, 17));
-    assert_eq!(blamed("custom valuetype V;"), (7, 18));
-    assert_eq!(blamed("valuetype V { factory f() raises(A); };"), (7, 26));
-    assert_eq!(blamed("const string A = \"a\" \"b\";"), (7, 21));
-    assert_eq!(blamed("interface I { void f() context(L\"a\"); };"), (7, 31));
-    assert_eq!(blamed("abstract struct A;"), (7, 9));
-}
-
-#[test]
-fn blame_wins_over_depth_at_one_token() {
-    assert_eq!(blamed("("), (7, 0));
-    assert_eq!(outcome(b"const long A = (1(", 1).numbers(), (7, 17, 7, 0));
-    assert_eq!(outcome(b"const long A = ((1(", 1).numbers(), (8, 16, 8, 0));
-}
-
-#[test]
-fn the_tree_part_alone() {
-    let call = |tokens: &[u32], count, length, depth| {
-        let mut tree = [9; 4];
-        let reply = read_tree(tokens, count, length, &mut tree, depth);
-        assert_eq!(tree, [if reply.number == 1 { 9 } else { 0 }; 4]);
-        (reply.number, reply.place, reply.tokens, reply.records)
-    };
-    assert_eq!(call(&[], 0, 5, 64), (7, 5, 0, 0));
-    assert_eq!(call(&[42, 77, 1], 1, 5, 64), (7, 5, 1, 0));
-    assert_eq!(call(&[1, 77, 1], 1, 5, 64), (7, 77, 1, 0));
-    assert_eq!(call(&[42 + 256, u32::MAX, 1], 1, 5, 64), (7, u32::MAX, 1, 0));
-    assert_eq!(call(&[42, 0, 1, 1, 0, 1, 64, 0, 1], 3, 3, 64), (9, 3, 3, 4));
-    assert_eq!(call(&[42, 77], 1, 5, 64), (1, 0, 0, 0));
-    assert_eq!(call(&[42, 77, 1], 1, 0, 64), (1, 0, 0, 0));
-    assert_eq!(call(&[42, 77, 1], 1, 1_048_577, 64), (1, 0, 0, 0));
-    assert_eq!(call(&[42, 77, 1], 1, 1_048_576, 64), (7, 1_048_576, 1, 0));
-    assert_eq!(call(&[42, 77, 1], 1, 5, 65), (1, 0, 0, 0));
-    assert_eq!(call(&[42, 77, 1], 1, 5, 0), (1, 0, 0, 0));
 }
 
 #[test]
@@ -225,4 +140,41 @@ fn spellings() {
     assert_eq!(spelling(text, &[42, 9, 1], 0), b"");
     assert_eq!(spelling(text, &[42, u32::MAX, u32::MAX], 0), b"");
     assert_eq!(spelling(text, &[42, 8, u32::MAX], 0), b"");
+}
+
+#[test]
+fn faults_come_before_a_full_table() {
+    let mut tokens = [1; 2];
+    assert_eq!(read_tokens(b"a b c 08", &mut tokens).number, 4);
+    assert_eq!(tokens, [0, 0]);
+}
+
+#[test]
+fn as_many_tokens_as_bytes() {
+    let text = vec![b';'; TEXT_CEILING];
+    let mut tokens = vec![1; 3 * TEXT_CEILING];
+    assert_eq!(read_tokens(&text, &mut tokens).tokens as usize, TEXT_CEILING);
+    assert_eq!(tokens[tokens.len() - 3..], [64, TEXT_CEILING as u32 - 1, 1]);
+    assert_eq!(read_tokens(&text, &mut tokens[1..]).number, 6);
+    assert!(tokens[1..].iter().all(|&number| number == 0));
+}
+
+#[test]
+fn a_text_past_the_ceiling() {
+    let mut tokens = [3; 4];
+    let reply = read_tokens(&vec![b';'; TEXT_CEILING + 1], &mut tokens);
+    assert_eq!((reply.number, reply.place, reply.tokens, reply.records), (1, 0, 0, 0));
+    assert_eq!(tokens, [3; 4]);
+}
+
+#[test]
+fn token_tables_of_any_length() {
+    for length in 0..12 {
+        let mut tokens = vec![5; length];
+        let reply = read_tokens(b" native A;", &mut tokens);
+        let full = length < 9;
+        assert_eq!((reply.number, reply.place, reply.tokens, reply.records), (if full { 6 } else { 0 }, 10, 3, 0));
+        let wanted = [42, 1, 6, 1, 8, 1, 64, 9, 1, 5, 5, 5];
+        assert_eq!(tokens, if full { vec![0; length] } else { wanted[..length].to_vec() });
+    }
 }

@@ -1,0 +1,203 @@
+/*
+ * Calls the library with a text and tables of exactly the lent size: on the heap, where AddressSanitizer and valgrind
+ * watch, and at both ends of pages that cannot be touched, the text and read-only tables on pages that cannot be
+ * written.
+ */
+#define _DEFAULT_SOURCE
+#include "idl.h"
+#include "stage.h"
+
+#include <stdio.h>
+#include <stdlib.h>
+#include <string.h>
+#include <sys/mman.h>
+
+#define PAGE 4096
+#define FILLER 0x5aa5f00du
+
+static void demand(int holds, const char *what) {
+    if (!holds) {
+        fprintf(stderr, "%s\n", what);
+        exit(1);
+    }
+}
+
+/* Where lent memory stands: on the heap, right after a page that is out of bounds, or right before one. */
+enum stand { HEAP, AFTER_GUARD, BEFORE_GUARD, STANDS };
+
+struct lent {
+    enum stand stand;
+    uint8_t *pages;
+    size_t pages_len;
+    void *bytes;
+};
+
+/* Lends a copy of these bytes. */
+static struct lent lend(enum stand stand, const void *bytes, size_t length, int writable) {
+    struct lent lent = {stand, NULL, 0, NULL};
+    if (stand == HEAP) {
+        lent.bytes = malloc(length);
+        demand(lent.bytes != NULL || length == 0, "the heap has room");
+    } else {
+        const size_t inner = (length + PAGE) / PAGE * PAGE;
+        lent.pages_len = inner + 2 * PAGE;
+        lent.pages = mmap(NULL, lent.pages_len, PROT_NONE, MAP_PRIVATE | MAP_ANONYMOUS, -1, 0);
+        demand(lent.pages != MAP_FAILED, "pages can be had");
+        demand(mprotect(lent.pages + PAGE, inner, PROT_READ | PROT_WRITE) == 0, "pages open");
+        lent.bytes = lent.pages + PAGE + (stand == BEFORE_GUARD ? inner - length : 0);
+    }
+    if (length > 0) {
+        memcpy(lent.bytes, bytes, length);
+    }
+    if (stand != HEAP && !writable) {
+        demand(mprotect(lent.pages + PAGE, lent.pages_len - 2 * PAGE, PROT_READ) == 0, "pages close");
+    }
+    return lent;
+}
+
+static void give_back(struct lent lent) {
+    if (lent.stand == HEAP) {
+        free(lent.bytes);
+    } else {
+        munmap(lent.pages, lent.pages_len);
+    }
+}
+
+/* Lends a table of this many numbers, filled with what no reader writes. */
+static struct lent lend_table(enum stand stand, size_t length) {
+    uint32_t *numbers = malloc((length + 1) * sizeof *numbers);
+    demand(numbers != NULL, "the heap has room");
+    for (size_t at = 0; at < length; at++) {
+        numbers[at] = FILLER;
+    }
+    const struct lent lent = lend(stand, numbers, length * sizeof *numbers, 1);
+    free(numbers);
+    return lent;
+}
+
+/* Whether a table holds what its reply says: records and the filler after them, the filler, or zeros. */
+static int is_as_replied(const uint32_t *table, size_t length, uint32_t number, size_t used) {
+    const uint32_t wanted = number <= IDL_BAD_CALL ? FILLER : 0;
+    for (size_t at = number == IDL_ACCEPTED ? used : 0; at < length; at++) {
+        if (table[at] != wanted) {
+            return 0;
+        }
+    }
+    return 1;
+}
+
+struct row {
+    const char *text;
+    size_t tokens_len;
+    size_t tree_len;
+    uint32_t depth;
+    idl_reply tokens_reply; /* of the token part */
+    idl_reply reply;        /* of the whole */
+};
+
+static const char SHIFT[] = "const long A = 1 << 8 + 4;";
+
+static const struct row ROWS[] = {
+    {"", 0, 0, 64, {0, 0, 0, 0}, {7, 0, 0, 0}},
+    {"native A;", 9, 16, 64, {0, 9, 3, 0}, {0, 9, 3, 4}},
+    {"native A;", 11, 19, 1, {0, 9, 3, 0}, {0, 9, 3, 4}},
+    {"native A;", 9, 15, 64, {0, 9, 3, 0}, {9, 9, 3, 4}},
+    {"native A;", 9, 0, 64, {0, 9, 3, 0}, {9, 9, 3, 4}},
+    {"native A;", 8, 16, 64, {6, 9, 3, 0}, {6, 9, 3, 0}},
+    {"native A;", 0, 0, 64, {6, 9, 3, 0}, {6, 9, 3, 0}},
+    {"native A;", 9, 16, 0, {0, 9, 3, 0}, {1, 0, 0, 0}},
+    {"native A;", 9, 16, 65, {0, 9, 3, 0}, {1, 0, 0, 0}},
+    {SHIFT, 30, 36, 64, {0, 26, 10, 0}, {0, 26, 10, 9}},
+    {SHIFT, 30, 35, 64, {0, 26, 10, 0}, {9, 26, 10, 9}},
+    {"const long A = - -1;", 30, 40, 64, {0, 20, 8, 0}, {7, 17, 8, 0}},
+    {"const long A = ((1));", 30, 40, 1, {0, 21, 10, 0}, {8, 16, 10, 0}},
+    {"interface Factory { };", 3, 2, 64, {5, 10, 0, 0}, {5, 10, 0, 0}},
+    {"const long A = 08;", 2, 3, 64, {4, 15, 0, 0}, {4, 15, 0, 0}},
+    {"/* x", 1, 1, 64, {3, 0, 0, 0}, {3, 0, 0, 0}},
+    {"native A; \"\\x", 1, 1, 64, {3, 10, 0, 0}, {3, 10, 0, 0}},
+    {"native A; 0x", 1, 1, 64, {4, 10, 0, 0}, {4, 10, 0, 0}},
+    {"native A; _", 1, 1, 64, {2, 10, 0, 0}, {2, 10, 0, 0}},
+};
+
+static int same_reply(idl_reply left, idl_reply right) {
+    return left.number == right.number && left.place == right.place && left.tokens == right.tokens &&
+           left.records == right.records;
+}
+
+static void test_tokens(const struct row *row, enum stand stand) {
+    const size_t text_len = strlen(row->text);
+    const struct lent text = lend(stand, row->text, text_len, 0);
+    const struct lent tokens = lend_table(stand, row->tokens_len);
+    const idl_reply reply = idl_read_tokens(text.bytes, text_len, tokens.bytes, row->tokens_len);
+    demand(same_reply(reply, row->tokens_reply), row->text);
+    demand(is_as_replied(tokens.bytes, row->tokens_len, reply.number, 3 * reply.tokens), row->text);
+    give_back(tokens);
+    give_back(text);
+}
+
+static void test_spelling(enum stand stand) {
+    const uint32_t records[] = {42, 0, 6, 1, 7, 2, 1, 8, 0xffffffff, 7};
+    const struct lent text = lend(stand, "native A", 8, 0);
+    const struct lent tokens = lend(stand, records, sizeof records, 0);
+    const uint32_t wanted[] = {6, 0, 0, 0, 0};
+    for (size_t record = 0; record < 5; record++) {
+        const idl_span span = idl_spelling(text.bytes, 8, tokens.bytes, 10, record);
+        demand(span.length == wanted[record], "a spelling");
+    }
+    give_back(tokens);
+    give_back(text);
+}
+
+#if STAGE >= TREE
+static void test_tree(const struct row *row, enum stand stand) {
+    const size_t text_len = strlen(row->text);
+    uint32_t numbers[64];
+    const idl_reply first = idl_read_tokens((const uint8_t *)row->text, text_len, numbers, 64);
+    if (first.number != IDL_ACCEPTED || row->reply.number == IDL_TOKEN_TABLE_FULL) {
+        return;
+    }
+    const size_t tokens_len = 3 * first.tokens;
+    const struct lent tokens = lend(stand, numbers, tokens_len * sizeof *numbers, 0);
+    const struct lent tree = lend_table(stand, row->tree_len);
+    const idl_reply reply =
+        idl_read_tree(tokens.bytes, tokens_len, first.tokens, text_len, tree.bytes, row->tree_len, row->depth);
+    demand(same_reply(reply, row->reply), row->text);
+    demand(is_as_replied(tree.bytes, row->tree_len, reply.number, 4 * reply.records), row->text);
+    give_back(tree);
+    give_back(tokens);
+}
+#endif
+
+#if STAGE >= READER
+static void test_reader(const struct row *row, enum stand stand) {
+    const size_t text_len = strlen(row->text);
+    const struct lent text = lend(stand, row->text, text_len, 0);
+    const struct lent tokens = lend_table(stand, row->tokens_len);
+    const struct lent tree = lend_table(stand, row->tree_len);
+    const idl_reply reply =
+        idl_read(text.bytes, text_len, tokens.bytes, row->tokens_len, tree.bytes, row->tree_len, row->depth);
+    demand(same_reply(reply, row->reply), row->text);
+    demand(is_as_replied(tokens.bytes, row->tokens_len, reply.number, 3 * reply.tokens), row->text);
+    demand(is_as_replied(tree.bytes, row->tree_len, reply.number, 4 * reply.records), row->text);
+    give_back(tree);
+    give_back(tokens);
+    give_back(text);
+}
+#endif
+
+int main(void) {
+    for (int stand = HEAP; stand < STANDS; stand++) {
+        test_spelling(stand);
+        for (size_t at = 0; at < sizeof ROWS / sizeof *ROWS; at++) {
+            test_tokens(&ROWS[at], stand);
+#if STAGE >= TREE
+            test_tree(&ROWS[at], stand);
+#endif
+#if STAGE >= READER
+            test_reader(&ROWS[at], stand);
+#endif
+        }
+    }
+    printf("the C test passed\n");
+    return 0;
+}

@@ -1,0 +1,52 @@
+//! Compares the proved reader with the ordinary one on random cases from a seed.
+//!
+//! Usage: compare SEED CASES
+
+use compare::Outcome;
+use std::env;
+use std::process::ExitCode;
+
+/// Prints how many cases agree, or the first that does not; false also if one of these replies never came.
+fn report(part: &str, outcome: Outcome, replies: &[usize]) -> bool {
+    let tally = match outcome {
+        Ok(tally) => tally,
+        Err(disagreement) => {
+            println!("{part}: {}", disagreement.chars().take(20_000).collect::<String>());
+            return false;
+        }
+    };
+    let counts: Vec<String> = replies.iter().map(|&reply| format!("{reply}: {}", tally[reply])).collect();
+    println!("{part}: {} cases agree ({})", tally.iter().sum::<usize>(), counts.join(", "));
+    replies.iter().all(|&reply| tally[reply] > 0)
+}
+
+fn compare(seed: u64, count: usize) -> bool {
+    let plain = |reply: idl::raw::Reply| [reply.number, reply.place, reply.tokens, reply.records];
+    let tokens = compare::token_part(seed, count, |text, tokens| plain(idl::raw::read_tokens(text, tokens)));
+    let mut agreed = report("token part", tokens, &[0, 1, 2, 3, 4, 5, 6]);
+    agreed &= report("spellings", compare::spellings(seed, count, idl::spelling), &[0, 1]);
+    #[cfg(feature = "tree")]
+    {
+        let tree = compare::tree_part(seed, count, |tokens, token_count, text_length, tree, depth| {
+            plain(idl::raw::read_tree(tokens, token_count, text_length, tree, depth))
+        });
+        agreed &= report("tree part", tree, &[0, 1, 7, 8, 9]);
+        let whole = compare::whole_reader(seed, count, |text, tokens, tree, depth| {
+            plain(idl::raw::read(text, tokens, tree, depth))
+        });
+        agreed &= report("whole reader", whole, &[0, 1, 2, 3, 4, 5, 6, 7, 8, 9]);
+    }
+    agreed
+}
+
+fn main() -> ExitCode {
+    let numbers: Vec<u64> = env::args().skip(1).filter_map(|word| word.parse().ok()).collect();
+    let [seed, count] = numbers[..] else {
+        eprintln!("usage: compare SEED CASES");
+        return ExitCode::from(2);
+    };
+    match compare(seed, count as usize) {
+        true => ExitCode::SUCCESS,
+        false => ExitCode::FAILURE,
+    }
+}

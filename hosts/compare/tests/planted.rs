@@ -1,0 +1,98 @@
+//! The comparison notices planted mistakes.
+
+use compare::{plain, spellings, token_part, tree_part, whole_reader, Numbers, Outcome};
+use ordinary::{read, read_tokens, read_tree, spelling};
+
+const CASES: usize = 20_000;
+
+fn assert_noticed(outcome: Outcome) {
+    assert!(outcome.is_err(), "the comparison passed a reader with a mistake");
+}
+
+#[test]
+fn nothing_planted() {
+    assert!(token_part(1, CASES, |text, tokens| plain(read_tokens(text, tokens))).is_ok());
+    assert!(whole_reader(1, CASES, |text, tokens, tree, depth| plain(read(text, tokens, tree, depth))).is_ok());
+    assert!(spellings(1, CASES, spelling).is_ok());
+}
+
+#[test]
+fn false_counts() {
+    for number in [6, 9] {
+        let counted = |reply: Numbers| match reply {
+            [found, place, tokens, 0] if found == number => [found, place, tokens + 1, 0],
+            [found, place, tokens, records] if found == number => [found, place, tokens, records + 1],
+            reply => reply,
+        };
+        assert_noticed(whole_reader(1, CASES, |text, tokens, tree, depth| {
+            counted(plain(read(text, tokens, tree, depth)))
+        }));
+    }
+}
+
+#[test]
+fn numbers_past_the_last_whole_record_kept() {
+    assert_noticed(tree_part(1, CASES, |tokens, count, length, tree, depth| {
+        let whole = tree.len() / 4 * 4;
+        plain(read_tree(tokens, count, length, &mut tree[..whole], depth))
+    }));
+    assert_noticed(token_part(1, CASES, |text, tokens| {
+        let whole = tokens.len() / 3 * 3;
+        plain(read_tokens(text, &mut tokens[..whole]))
+    }));
+}
+
+#[test]
+fn numbers_after_the_last_record_cleared() {
+    assert_noticed(token_part(1, CASES, |text, tokens| {
+        tokens.fill(0);
+        plain(read_tokens(text, tokens))
+    }));
+}
+
+#[test]
+fn tables_cleared_by_a_bad_call() {
+    assert_noticed(whole_reader(1, CASES, |text, tokens, tree, depth| {
+        let reply = plain(read(text, tokens, tree, depth));
+        if reply[0] != 0 {
+            tree.fill(0);
+        }
+        reply
+    }));
+}
+
+#[test]
+fn ceilings_off_by_one() {
+    assert_noticed(whole_reader(1, CASES, |text, tokens, tree, depth| {
+        plain(read(text, tokens, tree, if depth == 65 { 64 } else { depth }))
+    }));
+    assert_noticed(whole_reader(1, CASES, |text, tokens, tree, depth| {
+        plain(read(text, tokens, tree, if depth == 64 { 63 } else { depth }))
+    }));
+    assert_noticed(token_part(1, CASES, |text, tokens| match text.len() {
+        1_048_576 => [1, 0, 0, 0],
+        _ => plain(read_tokens(text, tokens)),
+    }));
+}
+
+#[test]
+fn kinds_compared_by_their_low_part() {
+    for mask in [0xff, 0xffff, 0x7fff_ffff] {
+        assert_noticed(tree_part(1, CASES, |tokens, count, length, tree, depth| {
+            let low = |(at, &number): (usize, &u32)| if at % 3 == 0 { number & mask } else { number };
+            let low: Vec<u32> = tokens.iter().enumerate().map(low).collect();
+            plain(read_tree(&low, count, length, tree, depth))
+        }));
+    }
+}
+
+#[test]
+fn spans_that_leave_the_text_cut_short() {
+    assert_noticed(spellings(1, CASES, |text, tokens, record| {
+        let Some(&[_, first, length]) = tokens.chunks_exact(3).nth(record) else {
+            return &[];
+        };
+        let first = text.len().min(first as usize);
+        &text[first..text.len().min(first + length as usize)]
+    }));
+}

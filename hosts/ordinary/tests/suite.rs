@@ -1,0 +1,16 @@
+//! The suite, on the ordinary reader.
+
+use ordinary as reader;
+
+#[path = "../../suite/chart.rs"]
+mod chart;
+#[path = "../../suite/common.rs"]
+mod common;
+#[path = "../../suite/derivations.rs"]
+mod derivations;
+#[path = "../../suite/edges.rs"]
+mod edges;
+#[path = "../../suite/lexemes.rs"]
+mod lexemes;
+#[path = "../../suite/samples.rs"]
+mod samples;

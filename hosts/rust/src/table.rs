@@ -1,0 +1,137 @@
+//! The records of filled tables, and what their numbers are called.
+
+/// A token: its kind, its first byte and its length in bytes.
+#[derive(Clone, Copy, Debug, PartialEq, Eq)]
+pub struct Token {
+    pub kind: u32,
+    pub first: usize,
+    pub length: usize,
+}
+
+/// A use of a rule: its number, its first token, one past its last token, and the records in its subtree with itself.
+#[derive(Clone, Copy, Debug, PartialEq, Eq)]
+pub struct Record {
+    pub rule: u32,
+    pub first: usize,
+    pub end: usize,
+    pub size: usize,
+}
+
+/// The first `count` tokens of a token table.
+///
+/// ```
+/// let table = [42, 0, 6, 1, 7, 1, 64, 8, 1];
+/// let kinds: Vec<u32> = idl::tokens(&table, 3).map(|token| token.kind).collect();
+/// assert_eq!(kinds, [42, 1, 64]);
+/// ```
+pub fn tokens(table: &[u32], count: usize) -> impl Iterator<Item = Token> + '_ {
+    let token = |numbers: &[u32]| Token { kind: numbers[0], first: numbers[1] as usize, length: numbers[2] as usize };
+    table.chunks_exact(3).take(count).map(token)
+}
+
+/// The first `count` records of a tree table, children before their parent.
+///
+/// ```
+/// let table = [51, 1, 2, 1, 42, 0, 2, 2, 2, 0, 3, 3, 1, 0, 3, 4];
+/// let rules: Vec<u32> = idl::records(&table, 4).map(|record| record.rule).collect();
+/// assert_eq!(rules, [51, 42, 2, 1]);
+/// ```
+pub fn records(table: &[u32], count: usize) -> impl Iterator<Item = Record> + '_ {
+    let record = |numbers: &[u32]| Record {
+        rule: numbers[0],
+        first: numbers[1] as usize,
+        end: numbers[2] as usize,
+        size: numbers[3] as usize,
+    };
+    table.chunks_exact(4).take(count).map(record)
+}
+
+/// The first `count` records of a tree table from the root down, each with the number of records above it.
+///
+/// ```
+/// let table = [51, 1, 2, 1, 42, 0, 2, 2, 2, 0, 3, 3, 1, 0, 3, 4];
+/// let rules: Vec<_> = idl::outline(&table, 4).iter().map(|(level, record)| (*level, record.rule)).collect();
+/// assert_eq!(rules, [(0, 1), (1, 2), (2, 42), (3, 51)]);
+/// ```
+pub fn outline(table: &[u32], count: usize) -> Vec<(usize, Record)> {
+    let records: Vec<Record> = records(table, count).collect();
+    let mut outline = Vec::with_capacity(records.len());
+    let mut waiting = Vec::new();
+    let mut roots = records.len();
+    while roots > 0 {
+        waiting.push((0, roots - 1));
+        roots -= records[roots - 1].size;
+    }
+    while let Some((level, place)) = waiting.pop() {
+        let record = records[place];
+        outline.push((level, record));
+        // The last child stands directly before its parent, each other child before the subtree of the next.
+        let start = place + 1 - record.size;
+        let mut end = place;
+        while end > start {
+            waiting.push((level + 1, end - 1));
+            end -= records[end - 1].size;
+        }
+    }
+    outline
+}
+
+const CLASSES: [&str; 8] = [
+    "identifier",
+    "integer literal",
+    "floating literal",
+    "fixed literal",
+    "character literal",
+    "wide character literal",
+    "string literal",
+    "wide string literal",
+];
+
+/// What a kind of token is called; keywords and marks are called as they are spelled.
+///
+/// ```
+/// assert_eq!(idl::kind_name(26), Some("const"));
+/// assert_eq!(idl::kind_name(69), Some("::"));
+/// assert_eq!(idl::kind_name(9), None);
+/// ```
+pub fn kind_name(kind: u32) -> Option<&'static str> {
+    let kind = kind as usize;
+    match kind {
+        1..=8 => Some(CLASSES[kind - 1]),
+        16..=63 => KEYWORDS.split_whitespace().nth(kind - 16),
+        64..=87 => MARKS.split_whitespace().nth(kind - 64),
+        _ => None,
+    }
+}
+
+const KEYWORDS: &str = "FALSE Object TRUE ValueBase abstract any attribute boolean case char const context custom
+    default double enum exception factory fixed float in inout interface local long module native octet oneway out
+    private public raises readonly sequence short string struct supports switch truncatable typedef union unsigned
+    valuetype void wchar wstring";
+
+const MARKS: &str = "; { } : , :: = ( ) < > [ ] | ^ & >> << + - * / % ~";
+
+/// What a rule of the grammar is called.
+///
+/// ```
+/// assert_eq!(idl::rule_name(1), Some("specification"));
+/// assert_eq!(idl::rule_name(99), Some("constr_forward_decl"));
+/// assert_eq!(idl::rule_name(100), None);
+/// ```
+pub fn rule_name(rule: u32) -> Option<&'static str> {
+    RULES.split_whitespace().nth((rule as usize).checked_sub(1)?)
+}
+
+const RULES: &str = "specification definition module interface interface_dcl forward_dcl interface_header
+    interface_body export interface_inheritance_spec interface_name scoped_name value value_forward_dcl value_box_dcl
+    value_abs_dcl value_dcl value_header value_inheritance_spec value_name value_element state_member init_dcl
+    init_param_decls init_param_decl init_param_attribute const_dcl const_type const_exp or_expr xor_expr and_expr
+    shift_expr add_expr mult_expr unary_expr unary_operator primary_expr literal boolean_literal positive_int_const
+    type_dcl type_declarator type_spec simple_type_spec base_type_spec template_type_spec constr_type_spec declarators
+    declarator simple_declarator complex_declarator floating_pt_type integer_type signed_int signed_short_int
+    signed_long_int signed_longlong_int unsigned_int unsigned_short_int unsigned_long_int unsigned_longlong_int
+    char_type wide_char_type boolean_type octet_type any_type object_type struct_type member_list member union_type
+    switch_type_spec switch_body case case_label element_spec enum_type enumerator sequence_type string_type
+    wide_string_type array_declarator fixed_array_size attr_dcl except_dcl op_dcl op_attribute op_type_spec
+    parameter_dcls param_dcl param_attribute raises_expr context_expr param_type_spec fixed_pt_type
+    fixed_pt_const_type value_base_type constr_forward_decl";
