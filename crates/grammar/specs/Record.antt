@@ -29,16 +29,19 @@ unfoldable pub recorded : Edition → (rule shape : ℕ) → Bool
 unfolding elem
 recorded E r n = not (eqb n 1) || elem r (E .always)
 
+-- the records of the children, then that of the use of rule r over them, if it is recorded
+unfoldable pub with-parent : Edition → (rule first past shape : ℕ) → List TreeRecord → List TreeRecord
+unfolding recorded
+with-parent E r first past n children =
+    children ++ cond (recorded E r n) (tree-record r first past (suc (length children)) ∷ []) []
+
 -- the records of the forest whose first token is number i
 unfoldable pub records : Edition → ℕ → Forest → List TreeRecord
-unfolding width recorded shape
+unfolding width shape with-parent
 records E i end = []
 records E i (leaf f k) = records E i f
 records E i (node f r c) =
-    records E i f ++
-    (records E (i + width f) c ++
-    cond (recorded E r (shape c))
-    (tree-record r (i + width f) (i + width f + width c) (suc (length (records E (i + width f) c))) ∷ []) [])
+    records E i f ++ with-parent E r (i + width f) (i + width f + width c) (shape c) (records E (i + width f) c)
 
 pub records-join : (E : Edition) (i : ℕ) (f g : Forest) →
     records E i (join f g) ≡ records E i f ++ records E (i + width f) g
@@ -50,9 +53,18 @@ records-join E i f (node g r c) =
     ap (λ (x : ℕ). i + x) (width-join f g) ∙ sym (add-assoc i (width f) (width g)) in
     rw (records-join E i f g, e, append-assoc)
 
-if-one : (b : Bool) (x : TreeRecord) → length (cond b (x ∷ []) []) ≤ 1
-if-one true x = omega arith
-if-one false x = omega arith
+own-record : (b : Bool) (x : TreeRecord) → length (cond b (x ∷ []) []) ≤ 1
+own-record true x = omega arith
+own-record false x = omega arith
+
+parent-one : (E : Edition) (r first past n : ℕ) (xs : List TreeRecord) →
+    length (with-parent E r first past n xs) ≤ suc (length xs)
+unfolding with-parent
+parent-one E r first past n xs =
+    let x = tree-record r first past (suc (length xs)) in
+    let e = length-append xs (cond (recorded E r n) (x ∷ []) []) in
+    let h = own-record (recorded E r n) x in
+    omega arith
 
 -- no more records than nodes
 pub records-nodes : (E : Edition) (i : ℕ) (f : Forest) → length (records E i f) ≤ nodes f
@@ -61,11 +73,9 @@ records-nodes E i end = omega arith
 records-nodes E i (leaf f k) = records-nodes E i f
 records-nodes E i (node f r c) =
     let n = i + width f in
-    let x = tree-record r n (n + width c) (suc (length (records E n c))) in
-    let rest = cond (recorded E r (shape c)) (x ∷ []) [] in
+    let own = with-parent E r n (n + width c) (shape c) (records E n c) in
     let a = records-nodes E i f in
     let b = records-nodes E n c in
-    let k = if-one (recorded E r (shape c)) x in
-    let e = length-append (records E i f) (records E n c ++ rest) in
-    let e′ = length-append (records E n c) rest in
+    let h = parent-one E r n (n + width c) (shape c) (records E n c) in
+    let e = length-append (records E i f) own in
     omega arith
