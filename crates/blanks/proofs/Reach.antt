@@ -5,7 +5,7 @@ use mathlib.Core.List.{List, [], _∷_}
 use Prim.Native.Nat.{ℕ, zero, suc, _+_, _≤_}
 use native.Mathlib.Omega.{arith}
 use lib.ListN.{length, drop, length-drop}
-use Rattle.text.specs.Bytes.{run, in-line}
+use Rattle.text.specs.Bytes.{in-line}
 use Rattle.text.specs.Blanks.{line-comment, block-comment, closed, further, to-close}
 use Rattle.text.proofs.Runs.{run-within}
 use Rattle.text.proofs.Sizes.{Sized}

@@ -44,7 +44,7 @@ pub within : (class : ℕ → Bool) (value : Bool) (lo n : ℕ) → T (every (λ
     (b : ℕ) → (lo ≤ b) × (b < lo + n) → value ≡ class b
 within class value lo n t b h = agreed value (class b) (every-at (λ k. agree value (class k)) lo n t (h .0) (h .1))
 
-or-else : (a b : Bool) → T (a || b) → (T a → ⊥) → T b
+pub or-else : (a b : Bool) → T (a || b) → (T a → ⊥) → T b
 or-else true b t n = absurd (n tt)
 or-else false b t n = t
 

@@ -30,7 +30,8 @@ ran c = c .run-of .ensures ∙ ap (run in-line) (rest (c .before .before .before
 
 add-t8 : tie.Need-add-t8
 add-t8 c =
-    omega (arith, ran c, run-within in-line (drop 2 (c .before .before .before .args .bs .now)), length-drop 2 (c .before .before .before .args .bs .now))
+    let bs = c .before .before .before .args .bs .now in
+    omega (arith, ran c, run-within in-line (drop 2 bs), length-drop 2 bs)
 
 returns : tie.Need-returns
 unfolding line-comment

@@ -3,7 +3,7 @@
 use Prim.Native.Nat.{_-_}
 use mathlib.Core.Logic.{⊎-elim}
 use borrow.Author.Needs.{needs}
-use borrow.Author.Tests.{eq-eqb, ne-eqb}
+use borrow.Author.Tests.{ne-eqb}
 use lib.ListN.{length}
 use Rattle.blanks.proofs.Closing.{Passed, passed-none, passed-more, passed-closed, passed-all}
 use Rattle.blanks.proofs.to_close.Statement.{statement}

@@ -1,0 +1,51 @@
+-- Marks by their spelling: a byte that is no mark has no kind, and no two bytes that differ are a mark.
+-- The first is a test computed at every byte; the second goes through the spellings, which have one byte or two. Assumes nothing.
+use mathlib.Core.Path.{_≡_, refl, sym, _∙_}
+use mathlib.Core.Bool.{Bool, true, false, _&&_, _||_}
+use mathlib.Core.List.{List, [], _∷_}
+use Prim.Native.Char.{code}
+use Prim.Native.Nat.{ℕ, _<_}
+use native.Mathlib.Omega.{arith}
+use lib.Dec.{T, eqb, eqb→eq}
+use borrow.Author.Tests.{eqb-true}
+use mir.Val.{hasKey}
+use Rattle.kinds.specs.Kinds.{bytes, same, search-from, marks, mark}
+use Rattle.text.proofs.Ranges.{every, every-at, or-else}
+
+-- what the last arm of a `match` knows where each arm before it has one key, the last of these first
+abbrev pub NoneOf : List ℕ → ℕ → Type 0
+NoneOf [] b = Unit
+NoneOf (k ∷ ks) b = NoneOf ks b × (b ≡ k → ⊥)
+
+no-key : (keys : List ℕ) (b : ℕ) → NoneOf keys b → T (hasKey keys b) → ⊥
+no-key [] b r t = t
+no-key (k ∷ ks) b r t = no-key ks b (r .0) (or-else (eqb k b) (hasKey ks b) t (λ u. r .1 (sym (eqb→eq k b u))))
+
+-- a byte apart from the keys has no value, where each of the 256 bytes is a key or has none
+pub apart : (value : ℕ → ℕ) (keys : List ℕ) → T (every (λ b. hasKey keys b || eqb (value b) 0) 0 256) →
+    {b : ℕ} → b < 256 → NoneOf keys b → 0 ≡ value b
+apart value keys t {b} h r =
+    sym (eqb→eq (value b) 0
+    (or-else (hasKey keys b) (eqb (value b) 0) (every-at (λ b. hasKey keys b || eqb (value b) 0) 0 256 t (omega arith) h) (no-key keys b r)))
+
+and-false : (a : Bool) → a && false ≡ false
+and-false true = refl
+and-false false = refl
+
+-- no mark has a second byte past the end of the text
+pub no-second : (x : ℕ) → 0 ≡ mark (x ∷ 256 ∷ [])
+unfolding mark marks bytes same search-from
+no-second x = simp and-false
+
+one-is-not : (a b : Bool) → (a ≡ true → b ≡ true → ⊥) → a && (b && true) ≡ false
+one-is-not true true h = absurd (h refl refl)
+one-is-not true false h = refl
+one-is-not false b h = refl
+
+-- two bytes that differ are no mark
+pub differ : (x y : ℕ) → (x ≡ y → ⊥) → 0 ≡ mark (x ∷ y ∷ [])
+unfolding mark marks bytes same search-from
+differ x y h =
+    let not-twice : (k : ℕ) → eqb x k && (eqb y k && true) ≡ false =
+    λ k. one-is-not (eqb x k) (eqb y k) (λ e f. h (eqb-true x k e ∙ sym (eqb-true y k f))) in
+    simp (and-false, not-twice (code ":"), not-twice (code ">"), not-twice (code "<"))

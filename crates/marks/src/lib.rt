@@ -1,0 +1,75 @@
+// The mark at the front of the rest of a text.
+ghost use mathlib.Core.Path.{_≡_};
+ghost use mathlib.Core.List.{[], _∷_};
+ghost use Rattle.kinds.specs.Kinds as kinds;
+ghost use Rattle.text.specs.Bytes.{at};
+ghost use Rattle.text.specs.Lexemes as lexemes;
+use text::Lexeme;
+
+// The kind of the mark that is this byte; 0 where there is none.
+fn one_byte(b: u8) -> u32
+    ensures { λ r. ⌜ r ≡ kinds.mark (b ∷ []) ⌝ }
+{
+    match b {
+        b'%' => 86,
+        b'&' => 79,
+        b'(' => 71,
+        b')' => 72,
+        b'*' => 84,
+        b'+' => 82,
+        b',' => 68,
+        b'-' => 83,
+        b'/' => 85,
+        b':' => 67,
+        b';' => 64,
+        b'<' => 73,
+        b'=' => 70,
+        b'>' => 74,
+        b'[' => 75,
+        b']' => 76,
+        b'^' => 78,
+        b'{' => 65,
+        b'|' => 77,
+        b'}' => 66,
+        b'~' => 87,
+        _ => 0,
+    }
+}
+
+// The kind of the mark that is the first two bytes; 0 where there is none. Such a mark is one byte twice.
+fn two_bytes(bs: &[u8]) -> u32
+    ensures { λ r. ⌜ r ≡ kinds.mark (at (now (bs .entry)) 0 ∷ at (now (bs .entry)) 1 ∷ []) ⌝ }
+{
+    if bs.len() < 2 {
+        return 0;
+    }
+    let b = bs[0];
+    if bs[1] != b {
+        return 0;
+    }
+    match b {
+        b':' => 69,
+        b'<' => 81,
+        b'>' => 80,
+        _ => 0,
+    }
+}
+
+// The longer mark at the front.
+pub fn mark(bs: &[u8]) -> Lexeme
+    ensures { λ r. ⌜ r ≡ lexemes.mark (now (bs .entry)) ⌝ }
+{
+    let two = two_bytes(bs);
+    if 0 < two {
+        return Lexeme::Token(two, 2);
+    }
+    if bs.len() == 0 {
+        return Lexeme::NoLexeme;
+    }
+    let one = one_byte(bs[0]);
+    if 0 < one {
+        Lexeme::Token(one, 1)
+    } else {
+        Lexeme::NoLexeme
+    }
+}
