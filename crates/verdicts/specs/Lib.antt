@@ -1,0 +1,2 @@
+pub mod OneMeaning
+pub mod Outcomes
