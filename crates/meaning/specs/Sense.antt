@@ -34,6 +34,7 @@ numbers (tree-record rule first past size) = rule ∷ first ∷ past ∷ size �
 
 -- the tree records of a derivation
 unfoldable pub tree-records : Edition → Forest → List (List ℕ)
+unfolding records
 tree-records E g = map numbers (records E 0 g)
 
 -- "The tokens have a place of blame, or else their one derivation, with r tree records by the recording rule."

@@ -1,2 +1,3 @@
 pub mod OneMeaning
 pub mod Outcomes
+pub mod Samples

@@ -22,6 +22,7 @@ use Rattle.prediction.specs.Verdict.{Says, says-derived, says-more, says-blamed
 
 -- the verdict that an outcome on t tokens stands for
 unfoldable pub of-outcome : Edition → (tokens room : ℕ) → run.Outcome → Verdict
+unfolding tree-records
 of-outcome E t room (run.done j g) =
     cond (eqb j t)
     (cond (ltb room (length (tree-records E g))) (full (length (tree-records E g))) (accepted (tree-records E g))) (grammar j)
