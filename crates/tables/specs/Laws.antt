@@ -10,7 +10,7 @@ use borrow.Author.Tests.{le-leb, lt-leb}
 use lib.Dec.{leb}
 use lib.ListN.{length, take, drop, length-append, take-append-drop}
 use lib.Seq.{sets, sets-eq, length-sets, take-at, drop-append-add, drop-drop, length-take-le}
-use Rattle.tables.specs.Tables.{capacity, put, store, row, Records, none, more}
+use Rattle.tables.specs.Tables.{capacity, put, store, row, front, Records, none, more}
 
 drop-past : (p q : List ℕ) (i m : ℕ) → length p ≡ i → drop (i + m) (p ++ q) ≡ drop m q
 drop-past p q i m e = subst (λ (k : ℕ). drop (k + m) (p ++ q) ≡ drop m q) e (drop-append-add p q m)
@@ -86,7 +86,7 @@ module _ (width : ℕ) where
 
   -- records that all fit, from the front on
   pub store-front : (t : List ℕ) {rs : List (List ℕ)} → Records width rs → width * length rs ≤ length t →
-      store width t 0 rs ≡ row rs ++ drop (width * length rs) t
+      store width t 0 rs ≡ front width rs t
   store-front t {rs} q h =
       let z = mul-zero width in
       let e : width * 0 + width * length rs ≡ width * length rs = omega arith in

@@ -5,7 +5,7 @@ use mathlib.Core.List.{List, [], _∷_, _++_}
 use mathlib.Core.Path.{_≡_}
 use Prim.Native.Nat.{ℕ, suc, _+_, _*_, _/_}
 use lib.Dec.{leb}
-use lib.ListN.{length, replicate}
+use lib.ListN.{length, drop, replicate}
 use lib.Seq.{sets}
 
 -- "A token record is three 32-bit numbers"
@@ -34,6 +34,10 @@ store width table n (r ∷ rs) = store width (put width table n r) (suc n) rs
 unfoldable pub row : List (List ℕ) → List ℕ
 row [] = []
 row (r ∷ rs) = r ++ row rs
+
+-- records at the front of a table: "On acceptance, numbers after the last record are unchanged."
+abbrev pub front : (width : ℕ) → List (List ℕ) → List ℕ → List ℕ
+front width rs table = row rs ++ drop (width * length rs) table
 
 -- each record has as many numbers as the table is wide
 pub data Records (width : ℕ) : List (List ℕ) → Type 0 where
