@@ -15,6 +15,8 @@ use Rattle.replies.specs.Replies.{reply}
 use Rattle.meaning.specs.Sense.{TextSense, TextMeans, means-fault, means-tokens, kind}
 use Rattle.meaning.specs.Verdict.{Verdict, grammar, deep, full, accepted, TextVerdict, fault, full-tokens, judgement, text-verdict}
 use Rattle.meaning.specs.Answer.{text-reply}
+use Rattle.prediction.specs.Check.{table}
+use Rattle.prediction.specs.IdlPlans.{idl-prediction}
 use Rattle.prediction.specs.IdlChecked.{idl-checked}
 use Rattle.prediction.specs.Theorems.{parse}
 use Rattle.prediction.specs.Verdict.{says}
@@ -29,7 +31,7 @@ pub record Call : Type 0 where
 
 -- the verdict on a text's tokens, computed
 unfoldable pub computed : (setting token-room tree-room : ℕ) → text.Tokens → TextVerdict
-unfolding of-outcome parse
+unfolding of-outcome parse table
 computed setting token-room tree-room (text.fault number place) = fault number place
 computed setting token-room tree-room (text.tokens ts) =
     cond (ltb token-room (length ts)) (full-tokens (length ts))
@@ -115,5 +117,5 @@ starred :
     } ∷
     refused 9 26 10 9 ∷
     refused 6 26 10 0 ∷ [])
-unfolding answer idl-checked idl
+unfolding answer table idl-prediction idl
 starred = refl
