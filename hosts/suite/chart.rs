@@ -86,26 +86,39 @@ fn agrees_on_valid_and_damaged_lists() {
     }
 }
 
-/// Follows every beginning of some valid lists by every kind.
+/// Follows every beginning of lists that use every rule by every kind.
 #[test]
-fn agrees_on_each_kind_after_each_beginning() {
+fn agrees_on_every_kind_after_every_beginning() {
     let grammar = Grammar::published();
     let chart = Chart::new(&grammar);
     let cases = Cases::new(&grammar);
     let mut random = Random::new(2);
-    for rule in 2..grammar.rules.len() {
-        let kinds = list_that_uses(rule, &cases, &chart, &mut random);
-        let length = random.below(kinds.len());
-        for kind in (1..=8).chain(16..=87) {
-            let next = [&kinds[..length], &[kind]].concat();
-            check(&next, &chart, &grammar, &mut random);
+    for rule in 1..grammar.rules.len() {
+        let kinds = list_that_uses(rule as u32, &cases, &chart, &mut random);
+        for (length, continuations) in chart.continuations(&kinds).iter().enumerate() {
+            for kind in (0..=88).chain([16 + 256, 26 + 65536, u32::MAX]) {
+                let list = [&kinds[..length], &[kind]].concat();
+                check_last(&list, continuations.contains(&kind));
+            }
         }
     }
 }
 
+/// The last token of a list is blamed exactly if no derivable list goes on with it, and none before it is.
+fn check_last(kinds: &[u32], goes_on: bool) {
+    let text_length = 5 * kinds.len() + 1;
+    let mut tree = vec![0; 8 * kinds.len()];
+    let reply = read_tree(&table_of(kinds), kinds.len(), text_length, &mut tree, 64);
+    let last = place_of(kinds.len() - 1);
+    match reply.number {
+        7 => assert_eq!(reply.place, if goes_on { text_length as u32 } else { last }, "{kinds:?}"),
+        number => assert_eq!((number, goes_on), (0, true), "{kinds:?}"),
+    }
+}
+
 /// A valid list in whose tree a rule is recorded; for the rules that never are, any list.
-fn list_that_uses(rule: usize, cases: &Cases, chart: &Chart, random: &mut Random) -> Vec<u32> {
-    const NEVER: [usize; 20] = [4, 11, 13, 20, 21, 28, 29, 41, 44, 45, 46, 47, 48, 50, 52, 54, 55, 59, 73, 95];
+fn list_that_uses(rule: u32, cases: &Cases, chart: &Chart, random: &mut Random) -> Vec<u32> {
+    const NEVER: [u32; 20] = [4, 11, 13, 20, 21, 28, 29, 41, 44, 45, 46, 47, 48, 50, 52, 54, 55, 59, 73, 95];
     loop {
         let kinds = cases.sentences().kinds(random, 25, 60);
         if kinds.len() > 80 {
@@ -114,7 +127,7 @@ fn list_that_uses(rule: usize, cases: &Cases, chart: &Chart, random: &mut Random
         let Meaning::Records(records) = chart.meaning(&kinds) else {
             panic!("{kinds:?} is derived");
         };
-        if NEVER.contains(&rule) || records.iter().any(|record| record[0] == rule as u32) {
+        if NEVER.contains(&rule) || records.iter().any(|record| record[0] == rule) {
             return kinds;
         }
     }

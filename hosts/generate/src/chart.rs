@@ -113,6 +113,25 @@ impl Chart {
 
     /// The meaning of a list of kinds.
     pub fn meaning(&self, kinds: &[u32]) -> Meaning {
+        let sets = self.sets(kinds);
+        if sets.len() <= kinds.len() {
+            return Meaning::Blame(sets.len() - 1);
+        }
+        let derivation = Derivation { chart: self, sets: &sets, ways: HashMap::new(), kinds };
+        derivation.meaning()
+    }
+
+    /// For each beginning of a list, up to its place of blame, the kinds with which a derivable list goes on.
+    pub fn continuations(&self, kinds: &[u32]) -> Vec<HashSet<u32>> {
+        let token = |item: &Item| match self.next(*item) {
+            Some(Symbol::Token(kind)) => Some(kind),
+            _ => None,
+        };
+        self.sets(kinds).iter().map(|set| set.items.iter().filter_map(token).collect()).collect()
+    }
+
+    /// The sets of items after each beginning of a list, as far as some derivable list begins so.
+    fn sets(&self, kinds: &[u32]) -> Vec<Set> {
         let mut sets = vec![Set::default()];
         for &production in &self.of_name[1] {
             sets[0].add(Item { production, dot: 0, start: 0 });
@@ -121,13 +140,12 @@ impl Chart {
         for (place, &kind) in kinds.iter().enumerate() {
             let after = self.step(&sets[place], kind);
             if after.items.is_empty() {
-                return Meaning::Blame(place);
+                break;
             }
             sets.push(after);
             self.close(&mut sets);
         }
-        let derivation = Derivation { chart: self, sets: &sets, ways: HashMap::new(), kinds };
-        derivation.meaning()
+        sets
     }
 
     fn next(&self, item: Item) -> Option<Symbol> {

@@ -5,6 +5,7 @@ pub mod chart;
 pub mod damage;
 pub mod grammar;
 pub mod kind;
+pub mod lexicon;
 pub mod nest;
 mod random;
 pub mod sentence;

@@ -12,5 +12,7 @@ mod derivations;
 mod edges;
 #[path = "../../suite/lexemes.rs"]
 mod lexemes;
+#[path = "../../suite/lexicon.rs"]
+mod lexicon;
 #[path = "../../suite/samples.rs"]
 mod samples;

@@ -17,6 +17,9 @@ mod edges;
 #[cfg(feature = "tokens")]
 #[path = "../../suite/lexemes.rs"]
 mod lexemes;
+#[cfg(feature = "tokens")]
+#[path = "../../suite/lexicon.rs"]
+mod lexicon;
 #[cfg(feature = "tree")]
 #[path = "../../suite/samples.rs"]
 mod samples;

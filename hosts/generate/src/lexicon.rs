@@ -1,0 +1,202 @@
+//! A slow token part to judge the fast ones: what each lexeme is, as a test on whole byte strings, and the longest
+//! one taken by trying every length.
+
+use crate::kind::Kinds;
+
+/// The token records of a text, or the number and place of its first fault.
+pub type Tokens = Result<Vec<[u32; 3]>, (u32, usize)>;
+
+/// What a whole byte string is.
+#[derive(Clone, Copy, PartialEq, Eq)]
+enum Class {
+    Word,
+    Escaped,
+    Number(u32),
+    Mark(u32),
+}
+
+/// The tokens of a text, by the kinds of a grammar.
+pub fn tokens(text: &[u8], kinds: &Kinds) -> Tokens {
+    let mut tokens = Vec::new();
+    let mut at = 0;
+    while at < text.len() {
+        let rest = &text[at..];
+        if let Some(length) = blank_length(rest).map_err(|number| (number, at))? {
+            at += length;
+            continue;
+        }
+        let (kind, length) = lexeme(rest, kinds).map_err(|number| (number, at))?;
+        tokens.push([kind, at as u32, length as u32]);
+        at += length;
+    }
+    Ok(tokens)
+}
+
+/// The length of the white space or comment that the bytes begin with, if they do.
+fn blank_length(rest: &[u8]) -> Result<Option<usize>, u32> {
+    if [9, 10, 11, 12, 13, 32].contains(&rest[0]) {
+        return Ok(Some(1));
+    }
+    if rest.starts_with(b"//") {
+        let end = rest.iter().position(|&byte| byte == 10 || byte == 13);
+        return Ok(Some(end.unwrap_or(rest.len())));
+    }
+    if rest.starts_with(b"/*") {
+        let ends = |end: &usize| rest[..*end].ends_with(b"*/");
+        return (4..=rest.len()).find(ends).map(Some).ok_or(3);
+    }
+    Ok(None)
+}
+
+fn lexeme(rest: &[u8], kinds: &Kinds) -> Result<(u32, usize), u32> {
+    for prefix in [&b"L"[..], b""] {
+        let after = rest.strip_prefix(prefix).unwrap_or(b"");
+        if after.starts_with(b"'") || after.starts_with(b"\"") {
+            let wide = !prefix.is_empty();
+            let length = literal_length(&after[1..], after[0], wide)?;
+            let kind = 5 + u32::from(wide) + 2 * u32::from(after[0] == b'"');
+            return Ok((kind, prefix.len() + length + 1));
+        }
+    }
+    let bound = rest.iter().position(|byte| byte.is_ascii_whitespace()).unwrap_or(rest.len());
+    let longest = (1..=bound.min(100)).rev().find_map(|length| Some((class(&rest[..length], kinds)?, length)));
+    let (class, length) = longest.ok_or(2u32)?;
+    let next = rest.get(length).copied().unwrap_or(b' ');
+    match class {
+        Class::Mark(kind) => Ok((kind, length)),
+        Class::Escaped => Ok((1, length)),
+        Class::Number(_) if is_word_byte(next) => Err(4),
+        Class::Number(kind) => Ok((kind, length)),
+        Class::Word => Ok((word_kind(&rest[..length], kinds)?, length)),
+    }
+}
+
+fn word_kind(word: &[u8], kinds: &Kinds) -> Result<u32, u32> {
+    let same = kinds.keywords().find(|keyword| keyword.as_bytes() == word);
+    let similar = kinds.keywords().find(|keyword| keyword.as_bytes().eq_ignore_ascii_case(word));
+    match (same, similar) {
+        (Some(keyword), _) => Ok(kinds.of(keyword)),
+        (None, Some(_)) => Err(5),
+        (None, None) => Ok(1),
+    }
+}
+
+fn class(bytes: &[u8], kinds: &Kinds) -> Option<Class> {
+    if is_word(bytes) {
+        return Some(Class::Word);
+    }
+    if bytes.strip_prefix(b"_").is_some_and(is_word) {
+        return Some(Class::Escaped);
+    }
+    let numbers: [(u32, fn(&[u8]) -> bool); 3] = [(2, is_integer), (3, is_floating), (4, is_fixed)];
+    if let Some((kind, _)) = numbers.iter().find(|(_, test)| test(bytes)) {
+        return Some(Class::Number(*kind));
+    }
+    let spelling = std::str::from_utf8(bytes).ok()?;
+    crate::kind::MARKS.split(' ').any(|mark| mark == spelling).then(|| Class::Mark(kinds.of(spelling)))
+}
+
+fn is_word_byte(byte: u8) -> bool {
+    byte.is_ascii_alphanumeric() || byte == b'_'
+}
+
+fn is_word(bytes: &[u8]) -> bool {
+    bytes.first().is_some_and(u8::is_ascii_alphabetic) && bytes.iter().all(|&byte| is_word_byte(byte))
+}
+
+fn all_digits(bytes: &[u8], radix: u32) -> bool {
+    bytes.iter().all(|&byte| char::from(byte).is_digit(radix))
+}
+
+fn is_integer(bytes: &[u8]) -> bool {
+    match bytes {
+        [b'0', b'x' | b'X', digits @ ..] => !digits.is_empty() && all_digits(digits, 16),
+        [b'0', digits @ ..] => all_digits(digits, 8),
+        digits => !digits.is_empty() && all_digits(digits, 10),
+    }
+}
+
+/// Decimal digits with at most one point, not the point alone; and whether there is a point.
+fn decimal_digits(bytes: &[u8]) -> Option<bool> {
+    let sides: Vec<&[u8]> = bytes.split(|&byte| byte == b'.').collect();
+    let digits = sides.concat();
+    (sides.len() <= 2 && !digits.is_empty() && all_digits(&digits, 10)).then_some(sides.len() == 2)
+}
+
+fn is_floating(bytes: &[u8]) -> bool {
+    match bytes.iter().position(|byte| byte.eq_ignore_ascii_case(&b'e')) {
+        None => decimal_digits(bytes) == Some(true),
+        Some(place) => {
+            let exponent = match &bytes[place + 1..] {
+                [b'+' | b'-', digits @ ..] => digits,
+                digits => digits,
+            };
+            decimal_digits(&bytes[..place]).is_some() && !exponent.is_empty() && all_digits(exponent, 10)
+        }
+    }
+}
+
+fn is_fixed(bytes: &[u8]) -> bool {
+    match bytes {
+        [digits @ .., b'd' | b'D'] => decimal_digits(digits).is_some(),
+        _ => false,
+    }
+}
+
+/// A piece of a literal: a character with its number if an escape gives it, an end, or a fault.
+enum Piece {
+    Character { length: usize, number: Option<u32> },
+    Close,
+    Fault(u32),
+}
+
+/// The length of a literal from behind its opening quote, closing quote included.
+fn literal_length(inside: &[u8], quote: u8, wide: bool) -> Result<usize, u32> {
+    let is_string = quote == b'"';
+    let mut length = 0;
+    let mut characters = 0;
+    loop {
+        match piece(&inside[length..], quote, wide) {
+            Piece::Fault(number) => return Err(number),
+            Piece::Close if !is_string && characters != 1 => return Err(4),
+            Piece::Close => return Ok(length + 1),
+            Piece::Character { .. } if !is_string && characters == 1 => return Err(4),
+            Piece::Character { number: Some(0), .. } if is_string => return Err(4),
+            Piece::Character { length: more, .. } => length += more,
+        }
+        characters += 1;
+    }
+}
+
+fn piece(rest: &[u8], quote: u8, wide: bool) -> Piece {
+    match rest {
+        [] | [10 | 13, ..] => Piece::Fault(3),
+        [b'\\', escaped @ ..] => escape(escaped, wide),
+        [byte, ..] if *byte == quote => Piece::Close,
+        [32..=126 | 160..=255, ..] => Piece::Character { length: 1, number: None },
+        _ => Piece::Fault(4),
+    }
+}
+
+/// The escape with these bytes after its backslash.
+fn escape(escaped: &[u8], wide: bool) -> Piece {
+    let (mark_length, most, radix) = match escaped {
+        [] | [10 | 13, ..] => return Piece::Fault(3),
+        [byte, ..] if b"ntvbrfa\\?'\"".contains(byte) => return Piece::Character { length: 2, number: None },
+        [b'0'..=b'7', ..] => (0, 3, 8),
+        [b'x', ..] => (1, 2, 16),
+        [b'u', ..] if wide => (1, 4, 16),
+        _ => return Piece::Fault(4),
+    };
+    let digits = &escaped[mark_length..];
+    let count = (0..=most.min(digits.len())).rev().find(|&count| all_digits(&digits[..count], radix)).unwrap_or(0);
+    if count == 0 {
+        return Piece::Fault(if matches!(digits, [] | [10 | 13, ..]) { 3 } else { 4 });
+    }
+    let spelling: String = digits[..count].iter().map(|&byte| char::from(byte)).collect();
+    match u32::from_str_radix(&spelling, radix) {
+        Ok(number) if radix == 8 && number > 255 => Piece::Fault(4),
+        Ok(number) => Piece::Character { length: 1 + mark_length + count, number: Some(number) },
+        Err(_) => Piece::Fault(4),
+    }
+}

@@ -1,0 +1,100 @@
+//! The token part against the lexemes as tests on whole byte strings.
+
+use super::reader::read_tokens;
+use generate::lexicon;
+use generate::{Cases, Grammar, Random};
+
+fn check(text: &[u8], grammar: &Grammar) {
+    let mut table = vec![0; 3 * text.len()];
+    let reply = read_tokens(text, &mut table);
+    let numbers = (reply.number, reply.place as usize, reply.tokens as usize, reply.records);
+    match lexicon::tokens(text, &grammar.kinds) {
+        Ok(tokens) => {
+            assert_eq!(numbers, (0, text.len(), tokens.len(), 0), "{}", text.escape_ascii());
+            assert_eq!(table[..3 * tokens.len()], tokens.concat(), "{}", text.escape_ascii());
+        }
+        Err((number, place)) => assert_eq!(numbers, (number, place, 0, 0), "{}", text.escape_ascii()),
+    }
+}
+
+/// Calls a check on every text of this length over these bytes.
+fn each_text(bytes: &[u8], length: usize, text: &mut Vec<u8>, check: &dyn Fn(&[u8])) {
+    if text.len() == length {
+        return check(text);
+    }
+    for &byte in bytes {
+        text.push(byte);
+        each_text(bytes, length, text, check);
+        text.pop();
+    }
+}
+
+#[test]
+fn agrees_on_every_text_of_four_bytes() {
+    let grammar = Grammar::published();
+    let bytes = b"\"'\\L/*_.079xuedi+:< \n\r\0\x80\xa0";
+    for length in 0..=4 {
+        each_text(bytes, length, &mut Vec::new(), &|text| check(text, &grammar));
+    }
+}
+
+#[test]
+fn agrees_on_every_number_of_six_bytes() {
+    let grammar = Grammar::published();
+    each_text(b"018.xed+ ", 6, &mut Vec::new(), &|text| check(text, &grammar));
+}
+
+#[test]
+fn agrees_on_every_beginning_of_a_literal() {
+    let grammar = Grammar::published();
+    for open in ["'", "L\"", "\"\\", "L'\\"] {
+        let check_after = |rest: &[u8]| check(&[open.as_bytes(), rest].concat(), &grammar);
+        for length in 0..=5 {
+            each_text(b"'\"\\x0u4n\n", length, &mut Vec::new(), &check_after);
+        }
+    }
+}
+
+#[test]
+fn agrees_on_valid_and_damaged_texts() {
+    let grammar = Grammar::published();
+    let cases = Cases::new(&grammar);
+    let mut random = Random::new(4);
+    for _ in 0..4_000 {
+        let text = cases.text(&mut random);
+        if text.len() < 2_000 {
+            check(&text, &grammar);
+        }
+    }
+}
+
+#[test]
+fn agrees_on_every_single_byte_between_tokens_and_inside_literals() {
+    let grammar = Grammar::published();
+    for byte in 0..=255 {
+        for (before, after) in
+            [("a ", " b"), ("a", "b"), ("\"", "\""), ("L'", "'"), ("'\\", "'"), ("/*", "*/"), ("//", "")]
+        {
+            check(&[before.as_bytes(), &[byte], after.as_bytes()].concat(), &grammar);
+        }
+    }
+}
+
+#[test]
+fn agrees_on_words_near_keywords() {
+    let grammar = Grammar::published();
+    for keyword in grammar.kinds.keywords() {
+        check(keyword.as_bytes(), &grammar);
+        check(keyword.to_uppercase().as_bytes(), &grammar);
+        check(keyword.to_lowercase().as_bytes(), &grammar);
+        check(format!("_{keyword} {keyword}_ {keyword}0 a{keyword} {}", &keyword[1..]).as_bytes(), &grammar);
+        for place in 0..keyword.len() {
+            let mut word = keyword.as_bytes().to_vec();
+            word[place] ^= 32;
+            check(&word, &grammar);
+            word[place] ^= 1;
+            check(&word, &grammar);
+            check(&keyword.as_bytes()[..place], &grammar);
+        }
+    }
+}
