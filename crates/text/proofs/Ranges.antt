@@ -14,7 +14,7 @@ agree true b = b
 agree false true = false
 agree false false = true
 
-agreed : (a b : Bool) → T (agree a b) → a ≡ b
+pub agreed : (a b : Bool) → T (agree a b) → a ≡ b
 agreed true true t = refl
 agreed true false t = absurd t
 agreed false true t = absurd t
@@ -25,11 +25,11 @@ abbrev pub every : (ℕ → Bool) → ℕ → ℕ → Bool
 every test lo zero = true
 every test lo (suc n) = test lo && every test (suc lo) n
 
-and-left : (a b : Bool) → T (a && b) → T a
+pub and-left : (a b : Bool) → T (a && b) → T a
 and-left true b t = tt
 and-left false b t = t
 
-and-right : (a b : Bool) → T (a && b) → T b
+pub and-right : (a b : Bool) → T (a && b) → T b
 and-right true b t = t
 and-right false b t = absurd t
 

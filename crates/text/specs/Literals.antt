@@ -1,23 +1,18 @@
 -- Character and string literals: paper 01, "Character, string", and the order of faults inside one literal.
 -- Assumes nothing: these are definitions.
-use mathlib.Core.Bool.{Bool, true, false, not, _&&_, _||_, cond}
+use mathlib.Core.Bool.{Bool, true, false, _&&_, _||_, cond}
 use mathlib.Core.List.{List, [], _∷_}
 use Prim.Native.Char.{code}
-use Prim.Native.Nat.{ℕ, zero, suc, _+_, min}
-use lib.Dec.{eqb, ltb, leb}
-use lib.ListN.{drop, length}
+use Prim.Native.Nat.{ℕ, zero, suc, _+_}
+use lib.Dec.{eqb, ltb}
+use lib.ListN.{take, drop, length}
 use Rattle.kinds.specs.Kinds as kinds
 use Rattle.text.specs.Bytes.{from, at, run, octal, hexadecimal, line-end, ended}
 use Rattle.text.specs.Numbers.{either}
 use Rattle.text.specs.declared.Lexeme.{Lexeme}
-use Rattle.text.specs.declared.Lexeme.the-variants.{Token, Open, BadLiteral}
+use Rattle.text.specs.declared.Lexeme.the-variants.{Token, NoLexeme, Open, BadLiteral}
 use Rattle.text.specs.declared.Piece.{Piece}
 use Rattle.text.specs.declared.Piece.the-variants.{Character, Zero, Close, Unclosed, Bad}
-
--- a line end, or the end of the text: a literal is open there
-unfoldable pub cut : ℕ → Bool
-unfolding line-end ended
-cut b = line-end b || ended b
 
 -- bytes that stand for themselves: 32 to 126 and 160 to 255
 unfoldable pub plain : ℕ → Bool
@@ -30,74 +25,98 @@ simple b =
     (eqb b (code "f") || (eqb b (code "a") || (eqb b (code "\\") || (eqb b (code "?") || (eqb b (code "'") ||
     eqb b (code "\""))))))))))
 
--- as many digits as stand there, up to a number
+-- where no character stands, the literal is open at byte 10, byte 13 and the end, and bad at any other byte
+unfoldable pub no-character : ℕ → Piece
+unfolding line-end ended
+no-character b = cond (line-end b || ended b) Unclosed Bad
+
+-- how many digits stand there, up to a number
 unfoldable pub digits : (ℕ → Bool) → ℕ → List ℕ → ℕ
 unfolding run
-digits class most bs = min most (run class bs)
+digits class most bs = run class (take most bs)
 
--- the first n bytes are the digit 0
-unfoldable pub zeros : ℕ → List ℕ → Bool
-zeros n bs = leb n (run (λ b. eqb b (code "0")) bs)
+-- every digit is 0
+unfoldable pub zeros : List ℕ → Bool
+zeros [] = true
+zeros (d ∷ ds) = eqb d (code "0") && zeros ds
 
--- a character written with n digits after its first bytes, of which there are so many
-unfoldable pub numbered : ℕ → ℕ → List ℕ → Piece
+-- a character written with these digits after its first bytes, of which there are so many
+unfoldable pub numbered : ℕ → List ℕ → Piece
 unfolding zeros
-numbered before n bs = cond (zeros n bs) (Zero (before + n)) (Character (before + n))
+numbered before ds = cond (zeros ds) (Zero (before + length ds)) (Character (before + length ds))
 
--- one to three octal digits, at most \377: three of them above that are a bad literal
+-- three octal digits above \377, where there are n of them
+unfoldable pub above-377 : ℕ → List ℕ → Bool
+above-377 n bs = eqb n 3 && ltb (code "3") (at bs 0)
+
+-- one to three octal digits, at most \377
 unfoldable pub octal-escape : List ℕ → Piece
-unfolding digits octal numbered
+unfolding digits octal above-377 numbered
 octal-escape bs =
     let n = digits octal 3 bs in
-    cond (eqb n 3 && ltb (code "3") (at bs 0)) Bad (numbered 1 n bs)
+    cond (above-377 n bs) Bad (numbered 1 (take n bs))
 
--- \x or \u with hex digits: without one it is cut short at a line end or the end of the text, and bad elsewhere
+-- so many hex digits at most, after \x or \u; without one it is no character
 unfoldable pub hexadecimal-escape : ℕ → List ℕ → Piece
-unfolding digits hexadecimal numbered cut
+unfolding digits hexadecimal no-character numbered
 hexadecimal-escape most bs =
     let n = digits hexadecimal most bs in
-    cond (eqb n 0) (cond (cut (at bs 0)) Unclosed Bad) (numbered 2 n bs)
+    cond (eqb n 0) (no-character (at bs 0)) (numbered 2 (take n bs))
 
--- what stands after a backslash; \u is wide only
+-- how many hex digits a letter after a backslash takes at most: \x two, \u four (wide only), any other none
+unfoldable pub hexadecimal-digits : Bool → ℕ → ℕ
+hexadecimal-digits wide b = cond (eqb b (code "x")) 2 (cond (eqb b (code "u") && wide) 4 0)
+
+-- what stands after a backslash
 unfoldable pub escape : Bool → List ℕ → Piece
-unfolding simple octal cut octal-escape hexadecimal-escape
+unfolding simple octal octal-escape hexadecimal-digits hexadecimal-escape no-character
 escape wide bs =
+    let most = hexadecimal-digits wide (at bs 0) in
     cond (simple (at bs 0)) (Character 2)
     (cond (octal (at bs 0)) (octal-escape bs)
-    (cond (eqb (at bs 0) (code "x")) (hexadecimal-escape 2 (drop 1 bs))
-    (cond (wide && eqb (at bs 0) (code "u")) (hexadecimal-escape 4 (drop 1 bs))
-    (cond (cut (at bs 0)) Unclosed Bad))))
+    (cond (ltb 0 most) (hexadecimal-escape most (drop 1 bs))
+    (no-character (at bs 0))))
 
--- what stands next inside a literal: its closing quote, its end without one, a character, or a fault
+-- what stands next inside a literal: its closing quote, a character, or where it is open or bad
 unfoldable pub piece : Bool → ℕ → List ℕ → Piece
-unfolding cut plain escape
+unfolding escape plain no-character
 piece wide quote bs =
     cond (eqb (at bs 0) quote) Close
-    (cond (cut (at bs 0)) Unclosed
     (cond (eqb (at bs 0) (code "\\")) (escape wide (drop 1 bs))
-    (cond (plain (at bs 0)) (Character 1) Bad)))
+    (cond (plain (at bs 0)) (Character 1)
+    (no-character (at bs 0))))
 
--- a character literal after n bytes and its one character
-unfoldable pub closing-quote : ℕ → ℕ → Piece → Lexeme
-closing-quote kind n Close = Token kind (suc n)
-closing-quote kind n Unclosed = Open
-closing-quote kind n (Character m) = BadLiteral
-closing-quote kind n (Zero m) = BadLiteral
-closing-quote kind n Bad = BadLiteral
+-- wide where L comes directly before
+abbrev pub character-kind : Bool → ℕ
+character-kind wide = cond wide kinds.wide-character kinds.character
+
+abbrev pub string-kind : Bool → ℕ
+string-kind wide = cond wide kinds.wide-string kinds.string
+
+-- a character literal that has its one character in its first n bytes, before this piece
+unfoldable pub after-character : ℕ → ℕ → Piece → Lexeme
+after-character kind n Close = Token kind (n + 1)
+after-character kind n Unclosed = Open
+after-character kind n (Character m) = BadLiteral
+after-character kind n (Zero m) = BadLiteral
+after-character kind n Bad = BadLiteral
+
+unfoldable pub closing : Bool → ℕ → List ℕ → Lexeme
+unfolding piece after-character
+closing wide n bs = after-character (character-kind wide) n (piece wide (code "'") (drop n bs))
 
 -- a character literal holds exactly one
-unfoldable pub one-character : Bool → ℕ → ℕ → List ℕ → Piece → Lexeme
-unfolding piece closing-quote
-one-character wide kind n bs Close = BadLiteral
-one-character wide kind n bs Unclosed = Open
-one-character wide kind n bs (Character m) = closing-quote kind (n + m) (piece wide (code "'") (drop m bs))
-one-character wide kind n bs (Zero m) = closing-quote kind (n + m) (piece wide (code "'") (drop m bs))
-one-character wide kind n bs Bad = BadLiteral
+unfoldable pub one-character : (ℕ → Lexeme) → Piece → Lexeme
+one-character more Close = BadLiteral
+one-character more Unclosed = Open
+one-character more (Character m) = more m
+one-character more (Zero m) = more m
+one-character more Bad = BadLiteral
 
 -- a character literal whose first n bytes, to its opening quote, are read
-unfoldable pub character : Bool → ℕ → ℕ → List ℕ → Lexeme
-unfolding piece one-character
-character wide kind n bs = one-character wide kind n bs (piece wide (code "'") bs)
+unfoldable pub character : Bool → ℕ → List ℕ → Lexeme
+unfolding piece one-character closing
+character wide n bs = one-character (λ m. closing wide (n + m) bs) (piece wide (code "'") (drop n bs))
 
 -- what a string goes on to after its next piece; it never holds character zero
 unfoldable pub string-piece : Lexeme → (ℕ → Lexeme) → Piece → Lexeme
@@ -107,32 +126,34 @@ string-piece closed more (Character m) = more m
 string-piece closed more (Zero m) = BadLiteral
 string-piece closed more Bad = BadLiteral
 
--- a string whose first n bytes are read, in as many steps at most; each takes a byte, so the text's length is enough
-unfoldable pub string-in : ℕ → Bool → ℕ → ℕ → List ℕ → Lexeme
+-- a string whose first n bytes are read, in as many steps at most; each takes a byte, so more steps than bytes are enough
+unfoldable pub string-in : ℕ → Bool → ℕ → List ℕ → Lexeme
 unfolding piece string-piece
-string-in zero wide kind n bs = Open
-string-in (suc steps) wide kind n bs =
-    string-piece (Token kind (suc n)) (λ m. string-in steps wide kind (n + m) (drop m bs)) (piece wide (code "\"") bs)
+string-in zero wide n bs = Open
+string-in (suc steps) wide n bs =
+    string-piece (Token (string-kind wide) (n + 1)) (λ m. string-in steps wide (n + m) bs) (piece wide (code "\"") (drop n bs))
 
 -- a string whose first n bytes, to its opening quote, are read
-unfoldable pub string : Bool → ℕ → ℕ → List ℕ → Lexeme
+unfoldable pub string : Bool → ℕ → List ℕ → Lexeme
 unfolding string-in
-string wide kind n bs = string-in (suc (length bs)) wide kind n bs
+string wide n bs = string-in (suc (length bs)) wide n bs
 
 -- a quote opens a literal
 unfoldable pub quote : ℕ → Bool
 quote b = either (code "'") (code "\"") b
 
--- between ' or "
-unfoldable pub literal : List ℕ → Lexeme
+-- between ' or ", after as many bytes
+unfoldable pub quoted : Bool → ℕ → List ℕ → Lexeme
 unfolding character string
-literal bs =
-    cond (eqb (at bs 0) (code "'")) (character false kinds.character 1 (drop 1 bs))
-    (string false kinds.string 1 (drop 1 bs))
+quoted wide before bs =
+    cond (eqb (at bs before) (code "'")) (character wide (before + 1) bs)
+    (cond (eqb (at bs before) (code "\"")) (string wide (before + 1) bs) NoLexeme)
 
--- wide where L comes directly before; the start of a wide literal is its L
+unfoldable pub literal : List ℕ → Lexeme
+unfolding quoted
+literal bs = quoted false 0 bs
+
+-- the start of a wide literal is its L
 unfoldable pub wide-literal : List ℕ → Lexeme
-unfolding character string
-wide-literal bs =
-    cond (eqb (at bs 1) (code "'")) (character true kinds.wide-character 2 (drop 2 bs))
-    (string true kinds.wide-string 2 (drop 2 bs))
+unfolding quoted
+wide-literal bs = quoted true 1 bs

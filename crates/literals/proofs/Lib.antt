@@ -1,0 +1,5 @@
+pub mod Keys
+pub mod AllZero
+pub mod Sizes
+pub mod Front
+pub mod Pieces

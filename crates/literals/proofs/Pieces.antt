@@ -1,0 +1,69 @@
+-- A literal goes on as the piece that the code reads at place n says, and a string takes a step of its definition with each piece.
+-- The part that the code lends to its end is the rest from place n on; there are more steps left than bytes. Assumes nothing.
+use mathlib.Core.Path.{_≡_, refl, sym, ap, subst, _∙_}
+use mathlib.Core.Bool.{Bool}
+use mathlib.Core.List.{List, [], _∷_}
+use Prim.Native.Char.{code}
+use Prim.Native.Nat.{ℕ, zero, suc, _+_, _-_, _≤_, _<_}
+use native.Mathlib.Omega.{arith}
+use lib.ListN.{length, take, drop, length-drop}
+use Rattle.text.specs.Literals.{piece, character-kind, string-kind, after-character, closing, one-character, character}
+use Rattle.text.specs.Literals.{string-piece, string-in, string}
+use Rattle.text.specs.declared.Lexeme.{Lexeme}
+use Rattle.text.specs.declared.Lexeme.the-variants.{Token}
+use Rattle.text.specs.declared.Piece.{Piece}
+use Rattle.text.specs.declared.Piece.the-variants.{Character}
+use Rattle.text.proofs.Rests.{rest}
+use Rattle.literals.proofs.Sizes.{Stands, character-size, piece-stands}
+
+module _ (wide : Bool) (quote n : ℕ) (bs : List ℕ) {p q : Piece}
+    (read : p ≡ piece wide quote (take (length bs - n) (drop n bs))) (is : p ≡ q) where
+  next : q ≡ piece wide quote (drop n bs)
+  next = sym is ∙ read ∙ ap (piece wide quote) (rest bs n)
+
+  pub stands : quote < 256 → Stands (length bs - n) q
+  stands h =
+      subst (λ (k : ℕ). Stands k q) (length-drop n bs)
+      (subst (Stands (length (drop n bs))) (sym next) (piece-stands wide quote (drop n bs) h))
+
+module _ (wide : Bool) (n : ℕ) (bs : List ℕ) {p q : Piece}
+    (read : p ≡ piece wide (code "'") (take (length bs - n) (drop n bs))) (is : p ≡ q) where
+  pub closing-by : after-character (character-kind wide) n q ≡ closing wide n bs
+  unfolding closing
+  closing-by = ap (after-character (character-kind wide) n) (next wide (code "'") n bs read is)
+
+  pub character-by : one-character (λ m. closing wide (n + m) bs) q ≡ character wide n bs
+  unfolding character
+  character-by = ap (one-character (λ m. closing wide (n + m) bs)) (next wide (code "'") n bs read is)
+
+-- a string is read to place n
+pub record Reading (wide : Bool) (start : ℕ) (bs : List ℕ) (n : ℕ) : Type 0 where
+  pub within : n ≤ length bs
+  pub more : ℕ
+  pub enough : length bs ≤ more + n
+  pub so-far : string wide start bs ≡ string-in (suc more) wide n bs
+
+module _ (wide : Bool) (start : ℕ) (bs : List ℕ) where
+  pub reading-none : start ≤ length bs → Reading wide start bs start
+  unfolding string
+  reading-none h = record { within = h; more = length bs; enough = omega arith; so-far = refl }
+
+  module _ {n : ℕ} (r : Reading wide start bs n) {p q : Piece}
+      (read : p ≡ piece wide (code "\"") (take (length bs - n) (drop n bs))) (is : p ≡ q) where
+    pub string-by : string-piece (Token (string-kind wide) (n + 1)) (λ m. string-in (r .more) wide (n + m) bs) q ≡ string wide start bs
+    unfolding string-in
+    string-by =
+        ap (string-piece (Token (string-kind wide) (n + 1)) (λ m. string-in (r .more) wide (n + m) bs))
+        (next wide (code "\"") n bs read is) ∙ sym (r .so-far)
+
+  on : (n m more : ℕ) → n + m ≤ length bs → 0 < m → length bs ≤ more + n → string wide start bs ≡ string-in more wide (n + m) bs →
+      Reading wide start bs (n + m)
+  on n m zero h l k e = absurd (omega arith)
+  on n m (suc more) h l k e = record { within = h; more = more; enough = omega arith; so-far = e }
+
+  pub reading-more : {n m : ℕ} (r : Reading wide start bs n) {p : Piece} →
+      p ≡ piece wide (code "\"") (take (length bs - n) (drop n bs)) → p ≡ Character m → Reading wide start bs (n + m)
+  unfolding string-piece
+  reading-more {n} {m} r read is =
+      let s = character-size (stands wide (code "\"") n bs read is (omega arith)) in
+      on n m (r .more) (omega (arith, r .within)) (s .0) (r .enough) (sym (string-by r read is))

@@ -1,0 +1,124 @@
+-- `literals::escape` meets its contract: the letter after the backslash decides in the order of the definition.
+-- Each test is that of the definition, on the first byte; at the end of the text stands 256, which passes none. Assumes nothing.
+use mathlib.Core.Path.{_≡_, refl, sym, _∙_, ap}
+use mathlib.Core.Bool.{Bool}
+use mathlib.Core.List.{List, [], _∷_}
+use Prim.Native.Nat.{ℕ}
+use native.Mathlib.Omega.{arith}
+use borrow.Author.Tests.{lt-ltb, le-ltb}
+use lib.ListN.{length}
+use Rattle.text.specs.Bytes.{octal}
+use Rattle.text.specs.Literals.{simple, hexadecimal-digits, hexadecimal-escape, escape}
+use Rattle.text.specs.declared.Piece.the-variants.{Unclosed}
+use Rattle.text.proofs.Rests.{rest}
+use Rattle.literals.proofs.Front.{seen}
+use borrow.Author.Needs.{needs}
+use Rattle.literals.proofs.escape.Statement.{statement}
+use Rattle.literals.proofs.escape.Tie as tie
+
+at-end : (wide : Bool) (bs : List ℕ) → length bs ≡ 0 → Unclosed ≡ escape wide bs
+unfolding escape
+at-end wide [] e = refl
+at-end wide (b ∷ bs) e = absurd (omega arith)
+
+returns : tie.Need-returns
+returns c = at-end _ _ (c .if1 .taken)
+
+shared-slice-read-b : tie.Need-shared-slice-read-b
+shared-slice-read-b c = search needs
+
+is-simple-requires : tie.Need-is-simple-requires
+is-simple-requires c κs = search needs
+
+returns-2 : tie.Need-returns-2
+unfolding escape
+returns-2 c =
+    let start = c .before .before .before in
+    rw (seen (start .before .before .args .bs .now) (start .if1 .left) simple (c .before .is-simple .ensures) (c .if2 .taken))
+
+is-octal-requires : tie.Need-is-octal-requires
+is-octal-requires c κs = search needs
+
+octal-escape-requires : tie.Need-octal-escape-requires
+octal-escape-requires c κs = search needs
+
+returns-3 : tie.Need-returns-3
+unfolding escape
+returns-3 c =
+    let octals = c .before .before in
+    let simples = octals .before .before in
+    let start = simples .before .before in
+    let bs = start .before .before .args .bs .now in
+    rw (
+      seen bs (start .if1 .left) simple (simples .is-simple .ensures) (octals .before .if2 .left),
+      seen bs (start .if1 .left) octal (octals .is-octal .ensures) (c .before .if3 .taken),
+    ) (c .octal-escape .ensures)
+
+hexadecimal-digits-requires : tie.Need-hexadecimal-digits-requires
+hexadecimal-digits-requires c κs = search needs
+
+sub-hexadecimal-escape : tie.Need-sub-hexadecimal-escape
+sub-hexadecimal-escape c = search needs
+
+part-hexadecimal-escape-start : tie.Need-part-hexadecimal-escape-start
+part-hexadecimal-escape-start c = search needs
+
+part-hexadecimal-escape-end : tie.Need-part-hexadecimal-escape-end
+part-hexadecimal-escape-end c = search needs
+
+hexadecimal-escape-requires : tie.Need-hexadecimal-escape-requires
+hexadecimal-escape-requires c κs = search needs
+
+no-character-requires : tie.Need-no-character-requires
+no-character-requires c κs = search needs
+
+returns-4 : tie.Need-returns-4
+unfolding escape
+returns-4 c =
+    let chosen = c .before .before in
+    let octals = chosen .before .before .before in
+    let simples = octals .before .before in
+    let start = simples .before .before in
+    let args = start .before .before .args in
+    rw (
+      seen (args .bs .now) (start .if1 .left) simple (simples .is-simple .ensures) (octals .before .if2 .left),
+      seen (args .bs .now) (start .if1 .left) octal (octals .is-octal .ensures) (chosen .before .before .if3 .left),
+      seen (args .bs .now) (start .if1 .left) (hexadecimal-digits (args .wide)) (chosen .before .hexadecimal-digits .ensures) refl,
+      lt-ltb 0 (chosen .before .hexadecimal-digits .result) (chosen .if4 .taken),
+    )
+    (c .hexadecimal-escape .ensures ∙ ap (hexadecimal-escape (chosen .before .hexadecimal-digits .result)) (rest (args .bs .now) 1))
+
+returns-5 : tie.Need-returns-5
+unfolding escape
+returns-5 c =
+    let chosen = c .before in
+    let octals = chosen .before .before .before in
+    let simples = octals .before .before in
+    let start = simples .before .before in
+    let args = start .before .before .args in
+    rw (
+      seen (args .bs .now) (start .if1 .left) simple (simples .is-simple .ensures) (octals .before .if2 .left),
+      seen (args .bs .now) (start .if1 .left) octal (octals .is-octal .ensures) (chosen .before .before .if3 .left),
+      seen (args .bs .now) (start .if1 .left) (hexadecimal-digits (args .wide)) (chosen .before .hexadecimal-digits .ensures) refl,
+      le-ltb 0 (chosen .before .hexadecimal-digits .result) (chosen .if4 .left),
+    ) (c .no-character .ensures)
+
+pub escape-spec : {M : Type 1} → statement M
+escape-spec =
+    tie.close
+    (tie.spec
+    returns
+    shared-slice-read-b
+    is-simple-requires
+    returns-2
+    is-octal-requires
+    octal-escape-requires
+    returns-3
+    hexadecimal-digits-requires
+    sub-hexadecimal-escape
+    part-hexadecimal-escape-start
+    part-hexadecimal-escape-end
+    hexadecimal-escape-requires
+    no-character-requires
+    returns-4
+    returns-5)
