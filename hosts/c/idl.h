@@ -43,7 +43,7 @@ enum idl_number {
     IDL_BAD_LITERAL = 4,      /* bad literal; place: its start; counts 0 */
     IDL_KEYWORD_CASE = 5,     /* keyword in another case; place: its start; counts 0 */
     IDL_TOKEN_TABLE_FULL = 6, /* place: text length; tokens: the number needed */
-    IDL_GRAMMAR = 7,          /* no text goes on with the token at this place, or the text ends too early (its length) */
+    IDL_GRAMMAR = 7,          /* no text goes on with the token here; or the text ends too early: its length */
     IDL_TOO_DEEP = 8,         /* the opening mark at this place would take the depth past the setting */
     IDL_TREE_TABLE_FULL = 9   /* place: text length; records: the number needed */
 };

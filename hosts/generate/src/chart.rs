@@ -7,7 +7,7 @@ use std::collections::{HashMap, HashSet};
 #[derive(Clone, Copy, Debug, PartialEq, Eq, Hash)]
 enum Symbol {
     Token(u32),
-    /// A rule by its number, or from `helpers` on a part of a rule's right side.
+    /// A rule by its number, or from `first_part` on a part of a rule's right side.
     Name(usize),
 }
 
@@ -28,7 +28,7 @@ pub struct Chart {
     productions: Vec<Production>,
     of_name: Vec<Vec<usize>>,
     nullable: Vec<bool>,
-    helpers: usize,
+    first_part: usize,
 }
 
 #[derive(Clone, Copy, Debug, PartialEq, Eq, Hash)]
@@ -40,9 +40,9 @@ struct Item {
 
 impl Chart {
     pub fn new(grammar: &Grammar) -> Self {
-        let helpers = grammar.rules.len();
+        let first_part = grammar.rules.len();
         let mut chart =
-            Chart { productions: Vec::new(), of_name: vec![Vec::new(); helpers], nullable: Vec::new(), helpers };
+            Chart { productions: Vec::new(), of_name: vec![Vec::new(); first_part], nullable: Vec::new(), first_part };
         for (rule, side) in grammar.rules.iter().enumerate().skip(1) {
             chart.define(rule, side);
         }
@@ -308,7 +308,7 @@ impl Derivation<'_> {
         let item = finished.into_iter().find(|&item| self.ways_of(item, end) > 0).expect("the name derives this");
         for (symbol, from, to) in self.parts(item, end) {
             match symbol {
-                Symbol::Name(part) if part >= chart.helpers => self.write_name(part, from, to, records, used),
+                Symbol::Name(part) if part >= chart.first_part => self.write_name(part, from, to, records, used),
                 Symbol::Name(rule) => {
                     used.push(symbol);
                     self.write_rule(rule, from, to, records);

@@ -80,8 +80,21 @@ pub fn skip(text: &[u8], start: usize, test: impl Fn(u8) -> bool) -> usize {
     at
 }
 
+/// For each byte, whether it goes on a word: a letter, a digit or an underscore.
+static WORD_BYTES: [bool; 256] = word_bytes();
+
+const fn word_bytes() -> [bool; 256] {
+    let mut found = [false; 256];
+    let mut byte = 0;
+    while byte < found.len() {
+        found[byte] = (byte as u8).is_ascii_alphanumeric() || byte as u8 == b'_';
+        byte += 1;
+    }
+    found
+}
+
 fn is_word_byte(byte: u8) -> bool {
-    byte.is_ascii_alphanumeric() || byte == b'_'
+    WORD_BYTES[byte as usize]
 }
 
 fn word(text: &[u8], start: usize) -> Lexeme {

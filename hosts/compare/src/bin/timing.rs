@@ -63,7 +63,7 @@ fn print_row(part: &str, size: &str, case: &str, [ordinary, proved]: [[f64; 2]; 
 }
 
 fn rounds(text: &[u8]) -> usize {
-    (40 << 20 >> 4) / (text.len() + 1000) + 20
+    (20 << 20) / (text.len() + 1000) + 40
 }
 
 /// How many tokens a text has; for one with a fault, about as many.
