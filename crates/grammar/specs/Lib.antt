@@ -9,3 +9,4 @@ pub mod Record
 pub mod Depth
 pub mod Blame
 pub mod Meaning
+pub mod Facts

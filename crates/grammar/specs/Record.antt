@@ -53,18 +53,14 @@ records-join E i f (node g r c) =
     ap (λ (x : ℕ). i + x) (width-join f g) ∙ sym (add-assoc i (width f) (width g)) in
     rw (records-join E i f g, e, append-assoc)
 
-own-record : (b : Bool) (x : TreeRecord) → length (cond b (x ∷ []) []) ≤ 1
-own-record true x = omega arith
-own-record false x = omega arith
+one-more : (xs : List TreeRecord) (b : Bool) (x : TreeRecord) → length (xs ++ cond b (x ∷ []) []) ≤ suc (length xs)
+one-more xs true x = let e = length-append xs (x ∷ []) in omega arith
+one-more xs false x = let e = length-append xs [] in omega arith
 
 parent-one : (E : Edition) (r first past n : ℕ) (xs : List TreeRecord) →
     length (with-parent E r first past n xs) ≤ suc (length xs)
 unfolding with-parent
-parent-one E r first past n xs =
-    let x = tree-record r first past (suc (length xs)) in
-    let e = length-append xs (cond (recorded E r n) (x ∷ []) []) in
-    let h = own-record (recorded E r n) x in
-    omega arith
+parent-one E r first past n xs = one-more xs (recorded E r n) _
 
 -- no more records than nodes
 pub records-nodes : (E : Edition) (i : ℕ) (f : Forest) → length (records E i f) ≤ nodes f
