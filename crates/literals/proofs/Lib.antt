@@ -3,3 +3,4 @@ pub mod AllZero
 pub mod Sizes
 pub mod Front
 pub mod Pieces
+pub mod Reach

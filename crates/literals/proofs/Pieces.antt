@@ -6,7 +6,7 @@ use mathlib.Core.List.{List, [], _∷_}
 use Prim.Native.Char.{code}
 use Prim.Native.Nat.{ℕ, zero, suc, _+_, _-_, _≤_, _<_}
 use native.Mathlib.Omega.{arith}
-use lib.ListN.{length, take, drop, length-drop}
+use lib.ListN.{length, take, drop}
 use Rattle.text.specs.Literals.{piece, character-kind, string-kind, after-character, closing, one-character, character}
 use Rattle.text.specs.Literals.{string-piece, string-in, string}
 use Rattle.text.specs.declared.Lexeme.{Lexeme}
@@ -14,7 +14,7 @@ use Rattle.text.specs.declared.Lexeme.the-variants.{Token}
 use Rattle.text.specs.declared.Piece.{Piece}
 use Rattle.text.specs.declared.Piece.the-variants.{Character}
 use Rattle.text.proofs.Rests.{rest}
-use Rattle.literals.proofs.Sizes.{Stands, character-size, piece-stands}
+use Rattle.literals.proofs.Sizes.{Stands, character-size, piece-left}
 
 module _ (wide : Bool) (quote n : ℕ) (bs : List ℕ) {p q : Piece}
     (read : p ≡ piece wide quote (take (length bs - n) (drop n bs))) (is : p ≡ q) where
@@ -22,9 +22,7 @@ module _ (wide : Bool) (quote n : ℕ) (bs : List ℕ) {p q : Piece}
   next = sym is ∙ read ∙ ap (piece wide quote) (rest bs n)
 
   pub stands : quote < 256 → Stands (length bs - n) q
-  stands h =
-      subst (λ (k : ℕ). Stands k q) (length-drop n bs)
-      (subst (Stands (length (drop n bs))) (sym next) (piece-stands wide quote (drop n bs) h))
+  stands h = subst (Stands (length bs - n)) (sym next) (piece-left wide quote n bs h)
 
 module _ (wide : Bool) (n : ℕ) (bs : List ℕ) {p q : Piece}
     (read : p ≡ piece wide (code "'") (take (length bs - n) (drop n bs))) (is : p ≡ q) where
