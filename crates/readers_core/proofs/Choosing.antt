@@ -1,0 +1,234 @@
+-- What a plan comes to where something is known of the next kind: one test for a choice, however many alternatives it has.
+-- By induction on the plan; that the last alternative needs no test is prediction's law. Assumes nothing.
+use Prim.Native.Nat.{ℕ}
+use mathlib.Core.Path.{_≡_, refl, sym, subst}
+use mathlib.Core.Logic.{_⊎_, inl, inr, ⊎-elim}
+use mathlib.Core.Bool.{Bool, true, false, not, _&&_, _||_}
+use mathlib.Core.List.{List, [], _∷_, _++_}
+use lib.Dec.{T, T-not, not-T, eqb, eqb→eq, eqb-refl}
+use Rattle.grammar.specs.Forest.{Forest}
+use Rattle.grammar.specs.Sets.{elem}
+use Rattle.prediction.specs.Sets.{subset, disjoint, subset-in, disjoint-not, and-left, and-right, and-both, or-left}
+use Rattle.prediction.specs.Sets.{or-right, or-cases, decide}
+use Rattle.prediction.specs.Plan.{Plan, token, group, call, wrap, seq, alt, skip, many}
+use Rattle.prediction.specs.Typing.{Table, first, null}
+use Rattle.prediction.specs.Run.{Outcome, blame, goes, turns, Runs, run-left, run-right, run-neither, run-seq}
+use Rattle.prediction.specs.Run.{run-seq-stop}
+use Rattle.prediction.specs.Run.{run-skip, run-last, run-more, run-more-stop}
+use Rattle.prediction.specs.Choice.{miss, run-then, run-else}
+use Rattle.prediction.specs.Check.{all-typed, null-exactly}
+use Rattle.prediction.specs.IdlChecked.{idl-checked, idl-table}
+
+-- the kind is one of these; it is none of these, arm by arm, the last arm first
+pub data Known : Type 0 where
+  among : List ℕ → Known
+  except : List (List ℕ) → Known
+
+-- as the tests of a `match` say it
+unfoldable pub AnyOf : List ℕ → ℕ → Type 0
+AnyOf [] x = ⊥
+AnyOf (k ∷ []) x = x ≡ k
+AnyOf (k ∷ (l ∷ ls)) x = (x ≡ k) ⊎ AnyOf (l ∷ ls) x
+
+unfoldable pub NoneOf : List (List ℕ) → ℕ → Type 0
+unfolding AnyOf
+NoneOf [] x = Unit
+NoneOf (ks ∷ arms) x = NoneOf arms x × (AnyOf ks x → ⊥)
+
+unfoldable pub Knows : Known → ℕ → Type 0
+unfolding AnyOf NoneOf
+Knows (among ks) x = AnyOf ks x
+Knows (except arms) x = NoneOf arms x
+
+unfoldable pub flat : List (List ℕ) → List ℕ
+flat [] = []
+flat (ks ∷ arms) = ks ++ flat arms
+
+same : (x k : ℕ) → x ≡ k → T (eqb x k)
+same x k h = subst (λ (y : ℕ). T (eqb x y)) h (eqb-refl x)
+
+pub any-elem : (ks : List ℕ) (x : ℕ) → AnyOf ks x → T (elem x ks)
+unfolding AnyOf elem
+any-elem [] x h = h
+any-elem (k ∷ []) x h = or-left (eqb x k) false (same x k h)
+any-elem (k ∷ (l ∷ ls)) x (inl h) = or-left (eqb x k) (elem x (l ∷ ls)) (same x k h)
+any-elem (k ∷ (l ∷ ls)) x (inr h) = or-right (eqb x k) (elem x (l ∷ ls)) (any-elem (l ∷ ls) x h)
+
+pub elem-any : (ks : List ℕ) (x : ℕ) → T (elem x ks) → AnyOf ks x
+unfolding AnyOf elem
+elem-any [] x h = h
+elem-any (k ∷ []) x h = go (or-cases (eqb x k) false h)
+  where
+    go : T (eqb x k) ⊎ T false → x ≡ k
+    go (inl u) = eqb→eq x k u
+    go (inr u) = absurd u
+elem-any (k ∷ (l ∷ ls)) x h =
+    ⊎-elim (λ u. inl (eqb→eq x k u)) (λ u. inr (elem-any (l ∷ ls) x u)) (or-cases (eqb x k) (elem x (l ∷ ls)) h)
+
+elem-cases : (x : ℕ) (xs ys : List ℕ) → T (elem x (xs ++ ys)) → T (elem x xs) ⊎ T (elem x ys)
+unfolding elem
+elem-cases x [] ys h = inr h
+elem-cases x (k ∷ xs) ys h =
+    ⊎-elim (λ u. inl (or-left (eqb x k) (elem x xs) u))
+    (λ u. ⊎-elim (λ v. inl (or-right (eqb x k) (elem x xs) v)) (λ v. inr v) (elem-cases x xs ys u))
+    (or-cases (eqb x k) (elem x (xs ++ ys)) h)
+
+none-elem : (arms : List (List ℕ)) (x : ℕ) → NoneOf arms x → T (elem x (flat arms)) → ⊥
+unfolding NoneOf flat elem
+none-elem [] x h u = u
+none-elem (ks ∷ arms) x h u =
+    ⊎-elim (λ v. h .1 (elem-any ks x v)) (λ v. none-elem arms x (h .0) v) (elem-cases x ks (flat arms) u)
+
+-- every run of the first alternative is one of the choice, as far as is known; of the second
+unfoldable pub lefts : Table → Known → Plan → Plan → Bool
+unfolding subset first null flat
+lefts t (among ks) a b = subset ks (first t a)
+lefts t (except arms) a b = subset (first t b) (flat arms) && (null t a || not (null t b))
+
+unfoldable pub rights : Table → Known → Plan → Plan → Bool
+unfolding subset disjoint first null flat
+rights t (among ks) a b = subset ks (first t b) && disjoint ks (first t a)
+rights t (except arms) a b = subset (first t a) (flat arms) && not (null t a)
+
+-- a repetition goes on; it ends
+unfoldable pub goes-on : Table → Known → Plan → Bool
+unfolding subset first
+goes-on t (among ks) a = subset ks (first t a)
+goes-on t (except arms) a = false
+
+unfoldable pub is-over : Table → Known → Plan → Bool
+unfolding subset first flat
+is-over t (among ks) a = disjoint ks (first t a)
+is-over t (except arms) a = subset (first t a) (flat arms)
+
+unfoldable pub pick : Bool → Bool → Plan → Plan → Plan → Plan
+pick true c x y z = x
+pick false true x y z = y
+pick false false x y z = z
+
+unfoldable pub choose : Table → Known → Plan → Plan
+unfolding lefts rights goes-on is-over pick
+choose t k (alt a b) = pick (lefts t k a b) (rights t k a b) (choose t k a) (choose t k b) (alt a b)
+choose t k (seq a b) = seq (choose t k a) b
+choose t k (many a) = pick (goes-on t k a) (is-over t k a) (seq a (many a)) skip (many a)
+choose t k (token n) = token n
+choose t k (group o b c) = group o b c
+choose t k (call n) = call n
+choose t k (wrap r) = wrap r
+choose t k skip = skip
+
+no-or : (a b : Bool) → (T a → ⊥) → (T b → ⊥) → T (not (a || b))
+no-or true b f g = absurd (f tt)
+no-or false true f g = absurd (g tt)
+no-or false false f g = tt
+
+-- neither alternative of two can begin: the choice blames, as the first does
+both-miss : (s : ℕ → ℕ) {d i : ℕ} (a b : Plan) {f : Forest} {x : Outcome} → (T (elem (s i) (first idl-table a)) → ⊥) →
+    (T (null idl-table a) → ⊥) → (T (elem (s i) (first idl-table b)) → ⊥) → (T (null idl-table b) → ⊥) →
+    Runs idl-table s d a i f x → Runs idl-table s d (alt a b) i f x
+unfolding goes turns
+both-miss s {d} {i} a b {f} na ea nb eb r =
+    subst (λ (y : Outcome). Runs idl-table s d (alt a b) i f y)
+    (sym (miss idl-table (all-typed idl-checked) s (null-exactly idl-checked) ea na r))
+    (run-neither (no-or (elem (s i) (first idl-table a)) (not (elem (s i) (first idl-table b)) && null idl-table a) na
+    (λ u. ea (and-right (not (elem (s i) (first idl-table b))) (null idl-table a) u)))
+    (no-or (elem (s i) (first idl-table b)) (null idl-table b) nb eb))
+
+choice-left : (s : ℕ → ℕ) {d i : ℕ} (k : Known) → Knows k (s i) → (a b : Plan) {f : Forest} {x : Outcome} →
+    T (lefts idl-table k a b) → Runs idl-table s d a i f x → Runs idl-table s d (alt a b) i f x
+unfolding lefts Knows goes
+choice-left s {d} {i} (among ks) h a b u r = run-then idl-table (all-typed idl-checked) s (null-exactly idl-checked) a
+    b (subset-in (s i) ks (first idl-table a) u (any-elem ks (s i) h)) r
+choice-left s {d} {i} (except arms) h a b {f} {x} u r =
+    go (λ w. none-elem arms (s i) h
+    (subset-in (s i) (first idl-table b) (flat arms)
+    (and-left (subset (first idl-table b) (flat arms)) (null idl-table a || not (null idl-table b)) u) w))
+    (decide (elem (s i) (first idl-table a))) (decide (null idl-table a))
+    (or-cases (null idl-table a) (not (null idl-table b))
+    (and-right (subset (first idl-table b) (flat arms)) (null idl-table a || not (null idl-table b)) u))
+  where
+    go : (T (elem (s i) (first idl-table b)) → ⊥) →
+        T (elem (s i) (first idl-table a)) ⊎ T (not (elem (s i) (first idl-table a))) →
+        T (null idl-table a) ⊎ T (not (null idl-table a)) → T (null idl-table a) ⊎ T (not (null idl-table b)) →
+        Runs idl-table s d (alt a b) i f x
+    go n (inl v) w z = run-then idl-table (all-typed idl-checked) s (null-exactly idl-checked) a b v r
+    go n (inr v) (inl w) z =
+        run-left (or-right (elem (s i) (first idl-table a)) (not (elem (s i) (first idl-table b)) && null idl-table a)
+        (and-both (not (elem (s i) (first idl-table b))) (null idl-table a) (not-T (elem (s i) (first idl-table b)) n)
+        w)) r
+    go n (inr v) (inr w) (inl z) = absurd (T-not (null idl-table a) w z)
+    go n (inr v) (inr w) (inr z) =
+        both-miss s a b (T-not (elem (s i) (first idl-table a)) v) (T-not (null idl-table a) w) n
+        (T-not (null idl-table b) z) r
+
+choice-right : (s : ℕ → ℕ) {d i : ℕ} (k : Known) → Knows k (s i) → (a b : Plan) {f : Forest} {x : Outcome} →
+    T (rights idl-table k a b) → Runs idl-table s d b i f x → Runs idl-table s d (alt a b) i f x
+unfolding rights Knows goes turns
+choice-right s {d} {i} (among ks) h a b {f} {x} u r =
+    run-right (no-or (elem (s i) (first idl-table a)) (not (elem (s i) (first idl-table b)) && null idl-table a)
+    (λ v. disjoint-not (s i) ks (first idl-table a)
+    (and-right (subset ks (first idl-table b)) (disjoint ks (first idl-table a)) u) (any-elem ks (s i) h) v)
+    (λ v. T-not (elem (s i) (first idl-table b))
+    (and-left (not (elem (s i) (first idl-table b))) (null idl-table a) v) in-b))
+    (or-left (elem (s i) (first idl-table b)) (null idl-table b) in-b) r
+  where
+    in-b : T (elem (s i) (first idl-table b))
+    in-b = subset-in (s i) ks (first idl-table b)
+        (and-left (subset ks (first idl-table b)) (disjoint ks (first idl-table a)) u) (any-elem ks (s i) h)
+choice-right s {d} {i} (except arms) h a b u r =
+    run-else idl-table (all-typed idl-checked) s (null-exactly idl-checked) a b
+    (λ w. none-elem arms (s i) h
+    (subset-in (s i) (first idl-table a) (flat arms)
+    (and-left (subset (first idl-table a) (flat arms)) (not (null idl-table a)) u) w))
+    (T-not (null idl-table a) (and-right (subset (first idl-table a) (flat arms)) (not (null idl-table a)) u)) r
+
+pub repeat-on : (s : ℕ → ℕ) {d i : ℕ} (k : Known) → Knows k (s i) → (a : Plan) {f : Forest} {x : Outcome} →
+    T (goes-on idl-table k a) → Runs idl-table s d (seq a (many a)) i f x → Runs idl-table s d (many a) i f x
+unfolding goes-on Knows
+repeat-on s {i = i} (among ks) h a u (run-seq r r′) =
+    run-more (subset-in (s i) ks (first idl-table a) u (any-elem ks (s i) h)) r r′
+repeat-on s {i = i} (among ks) h a u (run-seq-stop r z) =
+    run-more-stop (subset-in (s i) ks (first idl-table a) u (any-elem ks (s i) h)) r z
+repeat-on s {i = i} (except arms) h a u r = absurd u
+
+pub repeat-over : (s : ℕ → ℕ) {d i : ℕ} (k : Known) → Knows k (s i) → (a : Plan) {f : Forest} {x : Outcome} →
+    T (is-over idl-table k a) → Runs idl-table s d skip i f x → Runs idl-table s d (many a) i f x
+unfolding is-over Knows
+repeat-over s {i = i} (among ks) h a u run-skip =
+    run-last (not-T (elem (s i) (first idl-table a))
+    (λ v. disjoint-not (s i) ks (first idl-table a) u (any-elem ks (s i) h) v))
+repeat-over s {i = i} (except arms) h a u run-skip =
+    run-last (not-T (elem (s i) (first idl-table a))
+    (λ v. none-elem arms (s i) h (subset-in (s i) (first idl-table a) (flat arms) u v)))
+
+-- each run of what a plan comes to is one of the plan
+pub run-chosen : (s : ℕ → ℕ) {d i : ℕ} (k : Known) → Knows k (s i) → (p : Plan) {f : Forest} {x : Outcome} →
+    Runs idl-table s d (choose idl-table k p) i f x → Runs idl-table s d p i f x
+unfolding choose
+run-chosen s k h (token n) r = r
+run-chosen s k h (group o b c) r = r
+run-chosen s k h (call n) r = r
+run-chosen s k h (wrap n) r = r
+run-chosen s k h skip r = r
+run-chosen s k h (seq a b) (run-seq r r′) = run-seq (run-chosen s k h a r) r′
+run-chosen s k h (seq a b) (run-seq-stop r z) = run-seq-stop (run-chosen s k h a r) z
+run-chosen s {d} {i} k h (alt a b) {f} {x} r =
+    go (lefts idl-table k a b) (rights idl-table k a b) (λ u r. choice-left s k h a b u (run-chosen s k h a r))
+    (λ u r. choice-right s k h a b u (run-chosen s k h b r)) r
+  where
+    go : (l m : Bool) → (T l → Runs idl-table s d (choose idl-table k a) i f x → Runs idl-table s d (alt a b) i f x) →
+        (T m → Runs idl-table s d (choose idl-table k b) i f x → Runs idl-table s d (alt a b) i f x) →
+        Runs idl-table s d (pick l m (choose idl-table k a) (choose idl-table k b) (alt a b)) i f x →
+        Runs idl-table s d (alt a b) i f x
+    go true m p q r = p tt r
+    go false true p q r = q tt r
+    go false false p q r = r
+run-chosen s {d} {i} k h (many a) {f} {x} r =
+    go (goes-on idl-table k a) (is-over idl-table k a) (λ u r. repeat-on s k h a u r) (λ u r. repeat-over s k h a u r) r
+  where
+    go : (l m : Bool) → (T l → Runs idl-table s d (seq a (many a)) i f x → Runs idl-table s d (many a) i f x) →
+        (T m → Runs idl-table s d skip i f x → Runs idl-table s d (many a) i f x) →
+        Runs idl-table s d (pick l m (seq a (many a)) skip (many a)) i f x → Runs idl-table s d (many a) i f x
+    go true m p q r = p tt r
+    go false true p q r = q tt r
+    go false false p q r = r
