@@ -3,7 +3,7 @@
 use mathlib.Core.Bool.{Bool, true, false, _&&_, _||_, cond}
 use mathlib.Core.List.{List}
 use Prim.Native.Char.{code}
-use Prim.Native.Nat.{ℕ, suc, _+_, max}
+use Prim.Native.Nat.{ℕ, _+_, max}
 use lib.Dec.{eqb, ltb}
 use lib.ListN.{drop}
 use Rattle.kinds.specs.Kinds as kinds
@@ -33,8 +33,8 @@ octal-integer bs = only (eqb (at bs 0) (code "0")) (1 + run octal (drop 1 bs))
 unfoldable pub hexadecimal-integer : List ℕ → ℕ
 unfolding run hexadecimal
 hexadecimal-integer bs =
-    only (eqb (at bs 0) (code "0") && (either (code "x") (code "X") (at bs 1) && ltb 0 (run hexadecimal (drop 2 bs))))
-    (2 + run hexadecimal (drop 2 bs))
+    let digits = run hexadecimal (drop 2 bs) in
+    only (eqb (at bs 0) (code "0") && (either (code "x") (code "X") (at bs 1) && ltb 0 digits)) (2 + digits)
 
 unfoldable pub integer : List ℕ → ℕ
 unfolding decimal-integer octal-integer hexadecimal-integer
@@ -45,7 +45,7 @@ unfoldable pub pointed : List ℕ → ℕ
 unfolding run digit
 pointed bs =
     let before = run digit bs in
-    let after = run digit (drop (suc before) bs) in
+    let after = run digit (drop (before + 1) bs) in
     only (eqb (at bs before) (code ".") && ltb 0 (before + after)) (before + 1 + after)
 
 -- the part before an exponent, point optional
@@ -75,17 +75,22 @@ floating bs =
 -- as the part before an exponent, then d or D
 unfoldable pub fixed : List ℕ → ℕ
 unfolding mantissa
-fixed bs = only (ltb 0 (mantissa bs) && either (code "d") (code "D") (at bs (mantissa bs))) (suc (mantissa bs))
+fixed bs = only (ltb 0 (mantissa bs) && either (code "d") (code "D") (at bs (mantissa bs))) (mantissa bs + 1)
 
 -- a number of a kind and length; directly followed by a letter, digit or underscore it is a bad literal
 unfoldable pub followed : List ℕ → ℕ → ℕ → Lexeme
 unfolding wordly
 followed bs kind n = cond (wordly (at bs n)) BadLiteral (Token kind n)
 
--- the longest of the three forms; a point with no digit on either side is none
+-- the longest of three forms, of these lengths at the front
+unfoldable pub longest : List ℕ → ℕ → ℕ → ℕ → Lexeme
+unfolding followed
+longest bs integers floats fixeds =
+    cond (ltb (max integers floats) fixeds) (followed bs kinds.fixed fixeds)
+    (cond (ltb integers floats) (followed bs kinds.floating floats)
+    (cond (ltb 0 integers) (followed bs kinds.integer integers) NoLexeme))
+
+-- the longest is taken; a point with no digit on either side is of no form
 unfoldable pub number : List ℕ → Lexeme
-unfolding integer floating fixed followed
-number bs =
-    cond (ltb (max (integer bs) (floating bs)) (fixed bs)) (followed bs kinds.fixed (fixed bs))
-    (cond (ltb (integer bs) (floating bs)) (followed bs kinds.floating (floating bs))
-    (cond (ltb 0 (integer bs)) (followed bs kinds.integer (integer bs)) NoLexeme))
+unfolding integer floating fixed longest
+number bs = longest bs (integer bs) (floating bs) (fixed bs)

@@ -1,0 +1,5 @@
+pub mod Tests
+pub mod Within
+pub mod Integers
+pub mod Parts
+pub mod Forms
