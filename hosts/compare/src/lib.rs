@@ -1,4 +1,5 @@
-//! Comparison of a reader with the ordinary one: the reply and every number of both tables, on random cases.
+//! Comparison of a reader with the ordinary one: the reply and every number of both tables, on random cases. Text and
+//! tables have exactly the lent size, so that valgrind sees any byte touched beyond them.
 
 use generate::cases::{depth, table_length};
 use generate::{Cases, Grammar, Random};
@@ -55,7 +56,7 @@ fn run(seed: u64, count: usize, mut case: impl FnMut(&Cases, &mut Random) -> Res
 /// Compares a token part.
 pub fn token_part(seed: u64, count: usize, reader: impl Fn(&[u8], &mut [u32]) -> Numbers) -> Outcome {
     run(seed, count, |cases, random| {
-        let text = cases.text(random);
+        let text = cases.text(random).into_boxed_slice();
         let needed = ordinary::read_tokens(&text, &mut []).tokens as usize;
         let before = garbage(table_length(3 * needed, random), random);
         let (mut ours, mut theirs) = (before.clone(), before);
@@ -102,7 +103,7 @@ pub fn whole_reader(
     reader: impl Fn(&[u8], &mut [u32], &mut [u32], u32) -> Numbers,
 ) -> Outcome {
     run(seed, count, |cases, random| {
-        let text = cases.text(random);
+        let text = cases.text(random).into_boxed_slice();
         let depth = depth(random);
         let tokens_needed = 3 * ordinary::read_tokens(&text, &mut []).tokens as usize;
         let ample = ordinary::read(&text, &mut vec![0; tokens_needed], &mut [], depth);

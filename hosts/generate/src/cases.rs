@@ -46,7 +46,7 @@ impl<'a> Cases<'a> {
         while (4..6).contains(&form) && random.once_in(2) {
             damage_text(&mut text, random);
         }
-        if random.once_in(2_000) {
+        if random.once_in(400) {
             text.resize(1_048_574 + random.below(5), b' ');
         }
         text
@@ -110,6 +110,7 @@ impl<'a> Cases<'a> {
             3 => 1 << (20 + random.below(40)),
             _ => 2 * count + random.below(10),
         };
+        tokens.shrink_to_fit();
         TableCase { tokens, token_count, text_length }
     }
 }
