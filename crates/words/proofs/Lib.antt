@@ -1,0 +1,4 @@
+pub mod Spellings
+pub mod Rules
+pub mod Search
+pub mod Sizes

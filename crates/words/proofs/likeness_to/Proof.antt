@@ -1,0 +1,47 @@
+-- `words::likeness_to` meets its contract: the part of the table that is compared is the row's spelling.
+-- A word near the spelling has its length, and a row starts with its spelling. Assumes nothing.
+use mathlib.Core.Path.{_≡_, ap, sym, _∙_}
+use Prim.Native.Nat.{_+_, _-_, _*_}
+use native.Mathlib.Omega.{arith}
+use borrow.Author.Needs.{needs}
+use denote.Ref.{now}
+use lib.ListN.{length, take, drop}
+use Rattle.words.specs.Table.{spelling, likeness}
+use Rattle.words.proofs.Spellings.{near-length}
+use Rattle.words.proofs.Rules.{bounds-at, spelling-at, table-length}
+use Rattle.words.proofs.likeness_to.Statement.{statement}
+use Rattle.words.proofs.likeness_to.Tie as tie
+
+part-likeness-of-end : tie.Need-part-likeness-of-end
+part-likeness-of-end c =
+    let l = ap length (c .before .before .pre .0 .0) ∙ table-length in
+    let b = bounds-at (c .before .before .pre .0 .1) in
+    let n = near-length _ _ _ (c .before .before .pre .1) in
+    search needs
+
+-- the part that is lent
+part : (c : tie.Start) →
+    let start = c .args .row * 14 in
+    take (start + length (now (c .args .w)) - start) (drop start (now (c .args .words))) ≡ spelling (c .args .row)
+part c =
+    let e = near-length _ _ _ (c .pre .1) in
+    let n : c .args .row * 14 + length (now (c .args .w)) - c .args .row * 14 ≡ length (spelling (c .args .row)) = omega arith in
+    rw (c .pre .0 .0, n) (spelling-at (c .pre .0 .1))
+
+likeness-of-requires : tie.Need-likeness-of-requires
+likeness-of-requires c κs = near-length _ _ _ (c .before .before .before .pre .1) ∙ ap length (sym (part (c .before .before .before)))
+
+returns : tie.Need-returns
+returns c = c .likeness-of .ensures ∙ ap (likeness (now (c .before .before .before .before .args .w))) (part (c .before .before .before .before))
+
+pub likeness-to-spec : {M : Type 1} → statement M
+likeness-to-spec =
+    tie.close
+    (tie.spec
+    (λ c. search needs)
+    (λ c. search needs)
+    (λ c. search needs)
+    (λ c. search needs)
+    part-likeness-of-end
+    likeness-of-requires
+    returns)

@@ -1,0 +1,28 @@
+-- `words::word` meets its contract: the run at the front, sorted.
+-- A run is no longer than the text, so the part that is lent has its length. Assumes nothing.
+use mathlib.Core.Path.{_≡_, ap, sym, _∙_}
+use Prim.Native.Nat.{ℕ, _≤_}
+use borrow.Author.Needs.{needs}
+use lib.ListN.{length, take}
+use lib.Seq.{length-take-le}
+use Rattle.text.specs.Bytes.{run, wordly}
+use Rattle.text.specs.Words.{spelled, sorted, word}
+use Rattle.text.proofs.Runs.{run-within}
+use Rattle.words.proofs.word.Statement.{statement}
+use Rattle.words.proofs.word.Tie as tie
+
+slice-aggregate-sorted : tie.Need-slice-aggregate-sorted
+slice-aggregate-sorted c =
+    let bs = c .before .before .before .args .bs .now in
+    let n : c .before .run-of .result ≤ length bs = rw (c .before .run-of .ensures) (run-within wordly bs) in
+    sym (length-take-le (c .before .run-of .result) bs n)
+
+returns : tie.Need-returns
+unfolding word spelled
+returns c =
+    let bs = c .before .before .before .before .args .bs .now in
+    c .sorted .ensures ∙ ap (λ (n : ℕ). sorted (take n bs) (length (take n bs))) (c .before .before .run-of .ensures)
+    ∙ ap (sorted (spelled bs)) (length-take-le (run wordly bs) bs (run-within wordly bs))
+
+pub word-spec : {M : Type 1} → statement M
+word-spec = tie.close (tie.spec (λ c κs. search needs) slice-aggregate-sorted (λ c κs. search needs) returns)

@@ -1,0 +1,233 @@
+// Words: identifiers, keywords, and keywords in another case.
+ghost use mathlib.Core.Bool.{true};
+ghost use mathlib.Core.Path.{_≡_};
+ghost use Prim.Native.Nat.{suc, _+_, _<_};
+ghost use lib.ListN.{length};
+ghost use Rattle.text.specs.Bytes.{at};
+ghost use Rattle.text.specs.Words as text-words;
+ghost use Rattle.words.specs.Table.{table, likeness, spelling, First, near};
+use text::Class;
+use text::Lexeme;
+
+// The table below: its rows, which are numbered from 0, the bytes of a row, and where a row has its kind and its next row.
+const ROWS: usize = 48;
+
+const WIDTH: usize = 14;
+
+const KIND: usize = 12;
+
+const NEXT: usize = 13;
+
+// Where the index stands, after the rows.
+const INDEX: usize = 672;
+
+// The keywords in byte order, a row each: the spelling in 12 bytes, the kind, and the next row with the same length and,
+// case aside, the same first letter. Then the index: for each letter, a line each, and each length from 2 to 11 the
+// first row that has them. \x30 is 48, which is no row.
+const WORDS: [u8; 932] = *b"\
+    FALSE\0\0\0\0\0\0\0\x10\x12\
+    Object\0\0\0\0\0\0\x11\x1c\
+    TRUE\0\0\0\0\0\0\0\0\x12\x30\
+    ValueBase\0\0\0\x13\x2c\
+    abstract\0\0\0\0\x14\x30\
+    any\0\0\0\0\0\0\0\0\0\x15\x30\
+    attribute\0\0\0\x16\x30\
+    boolean\0\0\0\0\0\x17\x30\
+    case\0\0\0\0\0\0\0\0\x18\x09\
+    char\0\0\0\0\0\0\0\0\x19\x30\
+    const\0\0\0\0\0\0\0\x1a\x30\
+    context\0\0\0\0\0\x1b\x30\
+    custom\0\0\0\0\0\0\x1c\x30\
+    default\0\0\0\0\0\x1d\x30\
+    double\0\0\0\0\0\0\x1e\x30\
+    enum\0\0\0\0\0\0\0\0\x1f\x30\
+    exception\0\0\0\x20\x30\
+    factory\0\0\0\0\0\x21\x30\
+    fixed\0\0\0\0\0\0\0\x22\x13\
+    float\0\0\0\0\0\0\0\x23\x30\
+    in\0\0\0\0\0\0\0\0\0\0\x24\x30\
+    inout\0\0\0\0\0\0\0\x25\x30\
+    interface\0\0\0\x26\x30\
+    local\0\0\0\0\0\0\0\x27\x30\
+    long\0\0\0\0\0\0\0\0\x28\x30\
+    module\0\0\0\0\0\0\x29\x30\
+    native\0\0\0\0\0\0\x2a\x30\
+    octet\0\0\0\0\0\0\0\x2b\x30\
+    oneway\0\0\0\0\0\0\x2c\x30\
+    out\0\0\0\0\0\0\0\0\0\x2d\x30\
+    private\0\0\0\0\0\x2e\x30\
+    public\0\0\0\0\0\0\x2f\x30\
+    raises\0\0\0\0\0\0\x30\x30\
+    readonly\0\0\0\0\x31\x30\
+    sequence\0\0\0\0\x32\x26\
+    short\0\0\0\0\0\0\0\x33\x30\
+    string\0\0\0\0\0\0\x34\x25\
+    struct\0\0\0\0\0\0\x35\x27\
+    supports\0\0\0\0\x36\x30\
+    switch\0\0\0\0\0\0\x37\x30\
+    truncatable\0\x38\x30\
+    typedef\0\0\0\0\0\x39\x30\
+    union\0\0\0\0\0\0\0\x3a\x30\
+    unsigned\0\0\0\0\x3b\x30\
+    valuetype\0\0\0\x3c\x30\
+    void\0\0\0\0\0\0\0\0\x3d\x30\
+    wchar\0\0\0\0\0\0\0\x3e\x30\
+    wstring\0\0\0\0\0\x3f\x30\
+    \x30\x05\x30\x30\x30\x30\x04\x06\x30\x30\
+    \x30\x30\x30\x30\x30\x07\x30\x30\x30\x30\
+    \x30\x30\x08\x0a\x0c\x0b\x30\x30\x30\x30\
+    \x30\x30\x30\x30\x0e\x0d\x30\x30\x30\x30\
+    \x30\x30\x0f\x30\x30\x30\x30\x10\x30\x30\
+    \x30\x30\x30\x00\x30\x11\x30\x30\x30\x30\
+    \x30\x30\x30\x30\x30\x30\x30\x30\x30\x30\
+    \x30\x30\x30\x30\x30\x30\x30\x30\x30\x30\
+    \x14\x30\x30\x15\x30\x30\x30\x16\x30\x30\
+    \x30\x30\x30\x30\x30\x30\x30\x30\x30\x30\
+    \x30\x30\x30\x30\x30\x30\x30\x30\x30\x30\
+    \x30\x30\x18\x17\x30\x30\x30\x30\x30\x30\
+    \x30\x30\x30\x30\x19\x30\x30\x30\x30\x30\
+    \x30\x30\x30\x30\x1a\x30\x30\x30\x30\x30\
+    \x30\x1d\x30\x1b\x01\x30\x30\x30\x30\x30\
+    \x30\x30\x30\x30\x1f\x1e\x30\x30\x30\x30\
+    \x30\x30\x30\x30\x30\x30\x30\x30\x30\x30\
+    \x30\x30\x30\x30\x20\x30\x21\x30\x30\x30\
+    \x30\x30\x30\x23\x24\x30\x22\x30\x30\x30\
+    \x30\x30\x02\x30\x30\x29\x30\x30\x30\x28\
+    \x30\x30\x30\x2a\x30\x30\x2b\x30\x30\x30\
+    \x30\x30\x2d\x30\x30\x30\x30\x03\x30\x30\
+    \x30\x30\x30\x2e\x30\x2f\x30\x30\x30\x30\
+    \x30\x30\x30\x30\x30\x30\x30\x30\x30\x30\
+    \x30\x30\x30\x30\x30\x30\x30\x30\x30\x30\
+    \x30\x30\x30\x30\x30\x30\x30\x30\x30\x30\
+";
+
+// How a word stands to a keyword's spelling.
+pub enum Likeness {
+    Same,
+    // Different in the case of letters alone.
+    ButCase,
+    Different,
+}
+
+// The table, made once for a call of the reader and lent down.
+pub fn words() -> [u8; 932]
+    ensures { λ r. ⌜ r ≡ table ⌝ }
+{
+    WORDS
+}
+
+// A letter in lower case; any other byte as it is.
+fn lower(b: u8) -> u8
+    ensures { λ r. ⌜ r ≡ text-words.lower b ⌝ }
+{
+    match b {
+        b'A'..=b'Z' => b + 32,
+        _ => b,
+    }
+}
+
+// Compares a word with a spelling of its length.
+fn likeness_of(w: &[u8], v: &[u8]) -> Likeness
+    requires { ⌜ length (now w) ≡ length (now v) ⌝ }
+    ensures { λ r. ⌜ r ≡ likeness (now (w .entry)) (now (v .entry)) ⌝ }
+{
+    let mut exact = true;
+    let mut i = 0;
+    while i < w.len() {
+        let x = w[i];
+        let y = v[i];
+        if lower(x) != lower(y) {
+            return Likeness::Different;
+        }
+        exact = exact & (x == y);
+        i += 1;
+    }
+    if exact {
+        Likeness::Same
+    } else {
+        Likeness::ButCase
+    }
+}
+
+// The first row with the length and, case aside, the first letter of a word.
+fn first_near(words: &[u8; 932], w: &[u8]) -> usize
+    requires { ⌜ now words ≡ table ⌝ }
+    ensures { λ r. ⌜ First (near (text-words.lower (at (now (w .entry)) 0)) (length (now (w .entry)))) 0 r ⌝ }
+{
+    let n = w.len();
+    if n < 2 {
+        return ROWS;
+    }
+    if 11 < n {
+        return ROWS;
+    }
+    let letter = lower(w[0]);
+    if letter < b'a' {
+        return ROWS;
+    }
+    if b'z' < letter {
+        return ROWS;
+    }
+    words[INDEX + ((letter - b'a') as usize * 10 + (n - 2))] as usize
+}
+
+// The next row with the length and, case aside, the first letter of this one.
+fn next_near(words: &[u8; 932], row: usize) -> usize
+    requires { ⌜ (now words ≡ table) × (row < 48) ⌝ }
+    ensures { λ r. ⌜ First (near (text-words.lower (at (spelling row) 0)) (length (spelling row))) (suc row) r ⌝ }
+{
+    words[row * WIDTH + NEXT] as usize
+}
+
+// The kind of the keyword in a row.
+fn kind_of(words: &[u8; 932], row: usize) -> u32
+    requires { ⌜ (now words ≡ table) × (row < 48) ⌝ }
+    ensures { λ r. ⌜ r ≡ 16 + row ⌝ }
+{
+    words[row * WIDTH + KIND] as u32
+}
+
+// Compares a word with a keyword that has its length and, case aside, its first letter.
+fn likeness_to(words: &[u8; 932], row: usize, w: &[u8]) -> Likeness
+    requires { ⌜ (now words ≡ table) × (row < 48) ⌝ }
+    requires { ⌜ near (text-words.lower (at (now w) 0)) (length (now w)) (spelling row) ≡ true ⌝ }
+    ensures { λ r. ⌜ r ≡ likeness (now (w .entry)) (spelling row) ⌝ }
+{
+    let all = &words[..];
+    let start = row * WIDTH;
+    let end = start + w.len();
+    likeness_of(w, &all[start..end])
+}
+
+// Sorts a word, by the rows that have its length and, case aside, its first letter.
+fn sorted(words: &[u8; 932], w: &[u8]) -> Lexeme
+    requires { ⌜ now words ≡ table ⌝ }
+    ensures { λ r. ⌜ r ≡ text-words.sorted (now (w .entry)) (length (now (w .entry))) ⌝ }
+{
+    let mut row = first_near(words, w);
+    while row < ROWS {
+        match likeness_to(words, row, w) {
+            Likeness::Same => return Lexeme::Token(kind_of(words, row), w.len()),
+            Likeness::ButCase => return Lexeme::OtherCase(kind_of(words, row)),
+            Likeness::Different => row = next_near(words, row),
+        }
+    }
+    Lexeme::Token(1, w.len())
+}
+
+// A word, at the front of the rest of a text.
+pub fn word(words: &[u8; 932], bs: &[u8]) -> Lexeme
+    requires { ⌜ now words ≡ table ⌝ }
+    ensures { λ r. ⌜ r ≡ text-words.word (now (bs .entry)) ⌝ }
+{
+    let n = text::run_of(Class::Wordly, bs);
+    sorted(words, &bs[..n])
+}
+
+// A word with an underscore before it.
+pub fn escaped_word(bs: &[u8]) -> Lexeme
+    requires { ⌜ 0 < length (now bs) ⌝ }
+    ensures { λ r. ⌜ r ≡ text-words.escaped-word (now (bs .entry)) ⌝ }
+{
+    Lexeme::Token(1, text::run_of(Class::Wordly, &bs[1..]) + 1)
+}
