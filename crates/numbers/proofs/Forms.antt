@@ -1,5 +1,5 @@
 -- Which form of number is the longest, told by what follows the digits and the point.
--- Fixed and floating numbers go on after the digits, which an integer does only after 0x or 0X, where no other form stands. Assumes nothing.
+-- Fixed and floating numbers go on after the digits; an integer does so after 0x or 0X alone, where no other form stands. Assumes nothing.
 use mathlib.Core.Path.{_≡_, refl, ap, sym, _∙_}
 use mathlib.Core.Bool.{Bool, true, false, _&&_, _||_, and-false, or-true}
 use mathlib.Core.Logic.{_⊎_, inl, inr, ⊎-elim}
@@ -12,7 +12,8 @@ use lib.Dec.{eqb, ltb}
 use lib.ListN.{drop}
 use Rattle.kinds.specs.Kinds as kinds
 use Rattle.text.specs.Bytes.{at, run, digit}
-use Rattle.text.specs.Numbers.{either, only, hexadecimal-integer, integer, pointed, mantissa, exponent, floating, fixed, followed, longest, number}
+use Rattle.text.specs.Numbers.{either, only, hexadecimal-integer, integer, pointed, mantissa, exponent}
+use Rattle.text.specs.Numbers.{floating, fixed, followed, longest, number}
 use Rattle.text.specs.declared.Lexeme.the-variants.{NoLexeme}
 use Rattle.numbers.proofs.Tests.{conflict, either-class, zero-or-more, only-within}
 use Rattle.numbers.proofs.Integers.{Prefixed, prefixed, past-zero, zero-alone, integer-short, integer-some, integer-none}

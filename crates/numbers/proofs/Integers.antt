@@ -20,13 +20,15 @@ unfolding run
 run-none class [] e = refl
 run-none class (b ∷ bs) e = rw e
 
-run-first : (class : ℕ → Bool) (bs : List ℕ) → class 256 ≡ false → class (at bs 0) ≡ true → run class bs ≡ 1 + run class (drop 1 bs)
+run-first : (class : ℕ → Bool) (bs : List ℕ) →
+    class 256 ≡ false → class (at bs 0) ≡ true → run class bs ≡ 1 + run class (drop 1 bs)
 unfolding run
 run-first class [] s e = absurd (conflict e s)
 run-first class (b ∷ bs) s e = rw e (omega arith)
 
 -- a class within another has no longer runs
-run-less : (class wider : ℕ → Bool) → ((b : ℕ) → class b ≡ true → wider b ≡ true) → (bs : List ℕ) → run class bs ≤ run wider bs
+run-less : (class wider : ℕ → Bool) →
+    ((b : ℕ) → class b ≡ true → wider b ≡ true) → (bs : List ℕ) → run class bs ≤ run wider bs
 unfolding run
 run-less class wider h [] = omega arith
 run-less class wider h (b ∷ bs) = only-within (class b) (λ e. rw (h b e) (omega (arith, run-less class wider h bs)))
@@ -81,8 +83,8 @@ module _ (bs : List ℕ) (p : Prefixed bs (hexadecimal-integer bs)) (class : ℕ
 
   pub zero-alone : class (code "0") ≡ true → class 256 ≡ false → run class bs ≡ 1
   zero-alone z e =
-      omega
-      (arith, run-first class bs e (ap class (eqb-true (at bs 0) (code "0") (p .zero-digit)) ∙ z), run-none class (drop 1 bs) (rw getD-drop past-zero))
+      let first = ap class (eqb-true (at bs 0) (code "0") (p .zero-digit)) ∙ z in
+      omega (arith, run-first class bs e first, run-none class (drop 1 bs) (rw getD-drop past-zero))
 
 decimal-short : (bs : List ℕ) → decimal-integer bs ≤ run digit bs
 unfolding decimal-integer
@@ -92,7 +94,9 @@ octal-short : (bs : List ℕ) → octal-integer bs ≤ run digit bs
 unfolding octal-integer digit
 octal-short bs =
     only-within (eqb (at bs 0) (code "0"))
-    (λ e. omega (arith, run-first digit bs refl (ap digit (eqb-true (at bs 0) (code "0") e)), run-less octal digit octal-digit (drop 1 bs)))
+    (λ e.
+    let first = ap digit (eqb-true (at bs 0) (code "0") e) in
+    omega (arith, run-first digit bs refl first, run-less octal digit octal-digit (drop 1 bs)))
 
 pub integer-short : (bs : List ℕ) → hexadecimal-integer bs ≡ 0 → integer bs ≤ run digit bs
 unfolding integer
@@ -104,11 +108,13 @@ integer-hexadecimal bs h =
     let p = prefixed bs h in
     omega (arith, decimal-short bs, octal-short bs, zero-alone bs p digit refl refl refl refl, p .long)
 
-pub integer-octal : (bs : List ℕ) → eqb (at bs 0) (code "0") ≡ true → hexadecimal-integer bs ≡ 0 → integer bs ≡ octal-integer bs
+pub integer-octal : (bs : List ℕ) →
+    eqb (at bs 0) (code "0") ≡ true → hexadecimal-integer bs ≡ 0 → integer bs ≡ octal-integer bs
 unfolding integer decimal-integer
 integer-octal bs e h = rw (ap (from (code "1") (code "9")) (eqb-true (at bs 0) (code "0") e)) (omega arith)
 
-pub hexadecimal-is : (bs : List ℕ) {digits : ℕ} → eqb (at bs 0) (code "0") ≡ true → either (code "x") (code "X") (at bs 1) ≡ true →
+pub hexadecimal-is : (bs : List ℕ) {digits : ℕ} →
+    eqb (at bs 0) (code "0") ≡ true → either (code "x") (code "X") (at bs 1) ≡ true →
     digits ≡ run hexadecimal (drop 2 bs) → hexadecimal-integer bs ≡ only (ltb 0 digits) (2 + digits)
 unfolding hexadecimal-integer
 hexadecimal-is bs z x d = rw (d, z, x)
@@ -117,7 +123,8 @@ hexadecimal-is bs z x d = rw (d, z, x)
 pub integer-some : (bs : List ℕ) → 0 < run digit bs → 0 < integer bs
 unfolding integer octal-integer
 integer-some bs h =
-    ⊎-elim (λ (e : eqb (at bs 0) (code "0") ≡ true). rw e (omega arith)) (λ e. omega (arith, integer-decimal bs e)) (decided (eqb (at bs 0) (code "0")))
+    let zero-digit = eqb (at bs 0) (code "0") in
+    ⊎-elim (λ (e : zero-digit ≡ true). rw e (omega arith)) (λ e. omega (arith, integer-decimal bs e)) (decided zero-digit)
 
 pub integer-none : (bs : List ℕ) → run digit bs ≡ 0 → integer bs ≡ 0
 unfolding digit

@@ -27,10 +27,12 @@ pub pointed-long : (bs : List ℕ) → 0 < pointed bs → run digit bs < pointed
 unfolding pointed
 pointed-long bs =
     let before = run digit bs in
-    by-test (λ (k : ℕ). 0 < k → before < k)
-    (eqb (at bs before) (code ".") && ltb 0 (before + run digit (drop (before + 1) bs))) (λ e h. omega arith) (λ e h. absurd (omega arith))
+    let after = run digit (drop (before + 1) bs) in
+    by-test (λ (k : ℕ). 0 < k → before < k) (eqb (at bs before) (code ".") && ltb 0 (before + after))
+    (λ e h. omega arith) (λ e h. absurd (omega arith))
 
-pub mantissa-whole : (bs : List ℕ) {whole : ℕ} → whole ≡ run digit bs → eqb (at bs whole) (code ".") ≡ false → whole ≡ mantissa bs
+pub mantissa-whole : (bs : List ℕ) {whole : ℕ} →
+    whole ≡ run digit bs → eqb (at bs whole) (code ".") ≡ false → whole ≡ mantissa bs
 unfolding mantissa pointed
 mantissa-whole bs e t = rw (e, rw e at t) (omega arith)
 

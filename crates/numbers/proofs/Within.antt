@@ -1,6 +1,6 @@
 -- A number stands within the text, and has a byte at least.
 -- Each form ends at a byte that is in the text, or at the end of a run of digits, which is no longer than the text. Assumes nothing.
-use mathlib.Core.Path.{_≡_, subst}
+use mathlib.Core.Path.{_≡_}
 use mathlib.Core.Bool.{Bool, true, _&&_, _||_}
 use mathlib.Core.Logic.{⊎-elim}
 use mathlib.Core.List.{List}
@@ -14,10 +14,9 @@ use Rattle.kinds.specs.Kinds as kinds
 use Rattle.text.specs.Bytes.{from, at, run, digit, octal, hexadecimal, wordly}
 use Rattle.text.specs.Numbers.{decimal-integer, octal-integer, hexadecimal-integer, integer}
 use Rattle.text.specs.Numbers.{either, pointed, mantissa, sign, exponent, floating, fixed, followed, longest, number}
-use Rattle.text.specs.declared.Lexeme.{Lexeme}
-use Rattle.text.specs.declared.Lexeme.the-variants.{Blank, Token, NoLexeme, Open, BadLiteral, OtherCase}
 use Rattle.text.proofs.Rests.{byte-inside}
 use Rattle.text.proofs.Runs.{run-within}
+use Rattle.text.proofs.Sizes.{Sized}
 use Rattle.numbers.proofs.Tests.{by-test, both, either-cases, only-within}
 
 pub stands-within : (bs : List ℕ) (n b : ℕ) → b < 256 → eqb (at bs n) b ≡ true → n < length bs
@@ -30,7 +29,8 @@ either-within bs n x y h k e = byte-inside bs n (⊎-elim (λ s. omega arith) (�
 pub run-from-within : (class : ℕ → Bool) (bs : List ℕ) (n : ℕ) → n ≤ length bs → n + run class (drop n bs) ≤ length bs
 run-from-within class bs n h = omega (arith, run-within class (drop n bs), length-drop n bs)
 
-run-after-within : (class : ℕ → Bool) (bs : List ℕ) (n : ℕ) → 0 < run class (drop n bs) → n + run class (drop n bs) ≤ length bs
+run-after-within : (class : ℕ → Bool) (bs : List ℕ) (n : ℕ) →
+    0 < run class (drop n bs) → n + run class (drop n bs) ≤ length bs
 run-after-within class bs n h = omega (arith, run-within class (drop n bs), length-drop n bs)
 
 decimal-integer-within : (bs : List ℕ) → decimal-integer bs ≤ length bs
@@ -62,7 +62,9 @@ pointed-within bs =
     let point = eqb (at bs before) (code ".") in
     let some = ltb 0 (before + run digit (drop (before + 1) bs)) in
     only-within (point && some)
-    (λ e. omega (arith, run-from-within digit bs (before + 1) (omega (arith, stands-within bs before (code ".") (omega arith) (both point some e .0)))))
+    (λ e.
+    let inside = stands-within bs before (code ".") (omega arith) (both point some e .0) in
+    omega (arith, run-from-within digit bs (before + 1) (omega arith)))
 
 pub mantissa-within : (bs : List ℕ) → mantissa bs ≤ length bs
 unfolding mantissa
@@ -97,31 +99,24 @@ unfolding fixed
 fixed-within bs =
     let letter = either (code "d") (code "D") (at bs (mantissa bs)) in
     only-within (ltb 0 (mantissa bs) && letter)
-    (λ e. omega (arith, either-within bs (mantissa bs) (code "d") (code "D") (omega arith) (omega arith) (both (ltb 0 (mantissa bs)) letter e .1)))
-
--- a token has a byte at least, and at most as many as there are
-Sized : ℕ → Lexeme → Type 0
-Sized most (Blank n) = Unit
-Sized most (Token kind n) = (0 < n) × (n ≤ most)
-Sized most NoLexeme = Unit
-Sized most Open = Unit
-Sized most BadLiteral = Unit
-Sized most (OtherCase kind) = Unit
+    (λ e.
+    let inside = either-within bs (mantissa bs) (code "d") (code "D") (omega arith) (omega arith) in
+    omega (arith, inside (both (ltb 0 (mantissa bs)) letter e .1)))
 
 followed-sized : (bs : List ℕ) (kind n : ℕ) → 0 < n → n ≤ length bs → Sized (length bs) (followed bs kind n)
-unfolding followed Sized
+unfolding followed
 followed-sized bs kind n h k = by-test (Sized (length bs)) (wordly (at bs n)) (λ e. tt) (λ e. (h, k))
 
-longest-sized : (bs : List ℕ) (i f x : ℕ) → i ≤ length bs → f ≤ length bs → x ≤ length bs → Sized (length bs) (longest bs i f x)
-unfolding longest Sized
+longest-sized : (bs : List ℕ) (i f x : ℕ) →
+    i ≤ length bs → f ≤ length bs → x ≤ length bs → Sized (length bs) (longest bs i f x)
+unfolding longest
 longest-sized bs i f x h k l =
     let P = Sized (length bs) in
     by-test P (ltb (max i f) x) (λ e. followed-sized bs kinds.fixed x (omega (arith, ltb-true (max i f) x e)) l)
     (λ _. by-test P (ltb i f) (λ e. followed-sized bs kinds.floating f (omega (arith, ltb-true i f e)) k)
     (λ _. by-test P (ltb 0 i) (λ e. followed-sized bs kinds.integer i (ltb-true 0 i e) h) (λ _. tt)))
 
-pub number-within : (bs : List ℕ) {kind n : ℕ} → number bs ≡ Token kind n → (0 < n) × (n ≤ length bs)
-unfolding number Sized
-number-within bs e =
-    subst (Sized (length bs)) e
-    (longest-sized bs (integer bs) (floating bs) (fixed bs) (integer-within bs) (floating-within bs) (fixed-within bs))
+pub number-sized : (bs : List ℕ) → Sized (length bs) (number bs)
+unfolding number
+number-sized bs =
+    longest-sized bs (integer bs) (floating bs) (fixed bs) (integer-within bs) (floating-within bs) (fixed-within bs)

@@ -82,15 +82,15 @@ unfoldable pub followed : List ℕ → ℕ → ℕ → Lexeme
 unfolding wordly
 followed bs kind n = cond (wordly (at bs n)) BadLiteral (Token kind n)
 
--- the longest of three forms, of these lengths at the front
+-- the longest of the three forms, by their lengths
 unfoldable pub longest : List ℕ → ℕ → ℕ → ℕ → Lexeme
 unfolding followed
-longest bs integers floats fixeds =
-    cond (ltb (max integers floats) fixeds) (followed bs kinds.fixed fixeds)
-    (cond (ltb integers floats) (followed bs kinds.floating floats)
-    (cond (ltb 0 integers) (followed bs kinds.integer integers) NoLexeme))
+longest bs integer-size floating-size fixed-size =
+    cond (ltb (max integer-size floating-size) fixed-size) (followed bs kinds.fixed fixed-size)
+    (cond (ltb integer-size floating-size) (followed bs kinds.floating floating-size)
+    (cond (ltb 0 integer-size) (followed bs kinds.integer integer-size) NoLexeme))
 
--- the longest is taken; a point with no digit on either side is of no form
+-- a point with no digit on either side is of no form
 unfoldable pub number : List ℕ → Lexeme
 unfolding integer floating fixed longest
 number bs = longest bs (integer bs) (floating bs) (fixed bs)
