@@ -17,6 +17,7 @@ use Rattle.grammar.specs.Idl.{published, idl}
 use Rattle.grammar.specs.Derivation.{kind-at}
 use Rattle.grammar.specs.Record.{tree-record, recorded, records}
 use Rattle.grammar.specs.Depth.{depth}
+use Rattle.grammar.specs.Nesting.{nests}
 
 -- each name is that of a token or a rule, and each terminal has a kind
 unfoldable pub spelled : Written → Bool
@@ -145,3 +146,8 @@ pub marks-nest :
     (depth (kind-at (kinds-of ("(" ∷ "{" ∷ "[" ∷ "<" ∷ ">" ∷ "]" ∷ "}" ∷ ")" ∷ []))) 8 ≡ 0)
 unfolding depth kinds-of
 marks-nest = (refl, refl)
+
+-- the rules of edition 1 nest: each closes its own marks, and no rule holds itself but within marks or by left recursion
+pub rules-nest : T (nests idl)
+unfolding nests idl
+rules-nest = tt

@@ -9,4 +9,5 @@ pub mod Record
 pub mod Depth
 pub mod Blame
 pub mod Meaning
+pub mod Nesting
 pub mod Facts

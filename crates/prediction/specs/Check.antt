@@ -7,6 +7,7 @@ use mathlib.Core.List.{List, [], _∷_}
 use native.Mathlib.Omega.{arith}
 use lib.Dec.{T, eqb, leb, T-not, eqb→eq, leb→le}
 use lib.ListN.{length}
+use Rattle.grammar.specs.Nesting.{nests}
 use Rattle.grammar.specs.Rule.{Edition, right-side}
 use Rattle.grammar.specs.Sets.{elem}
 use Rattle.prediction.specs.Sets.{and-left, and-right, only, subset, disjoint}
@@ -74,6 +75,7 @@ passes E p = plans-settled p && (rules-fit E p && (lengths-agree E p && whole-en
 pub record Checked (E : Edition) : Type 0 where
   pub prediction : Prediction
   pub passed : T (passes E prediction)
+  pub nested : T (nests E)
 
 module _ {E : Edition} (c : Checked E) where
   abbrev pub plans-of : List Plan

@@ -1,6 +1,7 @@
 -- Edition 1 passes its test: its plans derive what its rules derive, and each choice is made by one token.
 -- Computed.
 use lib.Dec.{T}
+use Rattle.grammar.specs.Facts.{rules-nest}
 use Rattle.grammar.specs.Idl.{idl}
 use Rattle.prediction.specs.Typing.{Table}
 use Rattle.prediction.specs.Check.{passes, Checked, table-of}
@@ -11,7 +12,7 @@ unfolding passes idl idl-prediction
 idl-passes = tt
 
 abbrev pub idl-checked : Checked idl
-idl-checked = record { prediction = idl-prediction; passed = idl-passes }
+idl-checked = record { prediction = idl-prediction; passed = idl-passes; nested = rules-nest }
 
 -- the table of edition 1
 abbrev pub idl-table : Table

@@ -26,4 +26,5 @@ pub mod SamePlans
 pub mod Verdict
 pub mod Bound
 pub mod Theorems
+pub mod Transport
 pub mod Samples

@@ -6,22 +6,22 @@ use mathlib.Core.List.{List}
 use native.Mathlib.Omega.{arith}
 use lib.ListN.{length}
 use Rattle.grammar.specs.Blame.{Blame, one-blame}
-use Rattle.grammar.specs.Depth.{depth, depth-bounded}
+use Rattle.grammar.specs.Depth.{depth, Within, depth-bounded}
 use Rattle.grammar.specs.Derivation.{kind-at, Derivation}
 use Rattle.grammar.specs.Forest.{Forest, end, leaves}
 use Rattle.grammar.specs.Leaves.{leaves-are-tokens}
 use Rattle.grammar.specs.Meaning.{Meaning, derived, blamed}
+use Rattle.grammar.specs.Nesting.{nesting, marks-closed, depth-bounds-nesting}
 use Rattle.grammar.specs.Record.{records}
 use Rattle.grammar.specs.Rule.{Edition}
 use Rattle.prediction.specs.Plan.{call}
 use Rattle.prediction.specs.Typing.{typed}
 use Rattle.prediction.specs.Compare.{one-forest}
 use Rattle.prediction.specs.Run.{Outcome, done, blame, deep}
-use Rattle.prediction.specs.RunDepth.{marked, level-kept}
 use Rattle.prediction.specs.Inside.{zero-past}
 use Rattle.prediction.specs.RulesAsPlans.{as-plan}
 use Rattle.prediction.specs.Parser.{Result, full, total}
-use Rattle.prediction.specs.Check.{rounds, Checked, table-of, all-typed, all-marked, all-founded}
+use Rattle.prediction.specs.Check.{rounds, Checked, table-of, all-typed, all-founded}
 use Rattle.prediction.specs.SamePlans.{to-plans}
 use Rattle.prediction.specs.Verdict.{Says, says-derived, says-more, says-blamed, says-deep, says}
 use Rattle.prediction.specs.Bound.{bounded}
@@ -69,7 +69,10 @@ module _ {E : Edition} (c : Checked E) where
   records-bounded ks g d = bounded c ks g d
 
   -- every opening mark of a derivation is closed
-  pub marks-closed : (ks : List ℕ) (g : Forest) → Derivation E ks g → depth (kind-at ks) (length ks) ≡ 0
-  unfolding Derivation as-plan marked depth
-  marks-closed ks g d = level-kept (table-of c) (kind-at ks) (all-marked c) {p = call (E .start)} tt
-      (to-plans c (kind-at ks) d)
+  pub all-marks-closed : (ks : List ℕ) (g : Forest) → Derivation E ks g → depth (kind-at ks) (length ks) ≡ 0
+  all-marks-closed ks g d = marks-closed E (c .nested) ks g d
+
+  -- where no opening mark takes depth past n, no way down the tree has more than 32 uses of rules for each level
+  pub nesting-bounded : (ks : List ℕ) (g : Forest) (n : ℕ) → Derivation E ks g → Within (kind-at ks) n 0 (length ks) →
+      nesting g ≤ 32 * suc n
+  nesting-bounded ks g n d w = depth-bounds-nesting E (c .nested) ks g n d w
