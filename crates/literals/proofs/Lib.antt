@@ -4,3 +4,4 @@ pub mod Sizes
 pub mod Front
 pub mod Pieces
 pub mod Reach
+pub mod Ordinary
