@@ -85,6 +85,7 @@ fn mantissa(bs: &[u8], whole: usize) -> usize
     if 0 < whole + part { past + part } else { 0 }
 }
 
+// The length of an optional sign.
 fn sign(bs: &[u8]) -> usize
     ensures { λ r. ⌜ r ≡ numbers.sign (now (bs .entry)) ⌝ }
 {
