@@ -2,16 +2,17 @@
 -- A law of intervals turns the test into the rule at each row. Assumes nothing.
 use mathlib.Core.Path.{_≡_, refl, sym}
 use mathlib.Core.Bool.{Bool, true, false, _&&_, _||_}
-use mathlib.Core.List.{List}
+use mathlib.Core.List.{List, [], _∷_}
 use Prim.Native.Nat.{ℕ, suc, _+_, _-_, _*_, _≤_, _<_}
+use Prim.Native.String.{String}
 use native.Mathlib.Omega.{arith}
 use lib.Dec.{T, eqb, leb, eqb→eq, leb→le}
 use lib.ListN.{length, getD, take, drop}
-use Rattle.kinds.specs.Kinds.{same}
+use Rattle.kinds.specs.Kinds.{bytes, keywords, same}
 use Rattle.text.specs.Bytes.{at, from}
 use Rattle.text.specs.Words.{lower, same-but-case}
 use Rattle.text.proofs.Ranges.{agree, agreed, and-left, and-right, every, every-at, or-else, within}
-use Rattle.words.specs.Table.{near, table, spelling, First}
+use Rattle.words.specs.Table.{count, near, table, spelling, First}
 use Rattle.words.proofs.Spellings.{unless, same-equal, near-length, near-letter}
 
 pub table-length : length table ≡ 932
@@ -121,14 +122,51 @@ index-at {letter} {n} b =
     first-holds _ _ _ (every-at (entry-right letter) 2 10 line {k = n} (b .two-on) (omega arith))
 
 -- no row is near a letter or a length that the index lacks
+none-out : (letter n : ℕ) → (T (bounded letter n) → ⊥) → {j : ℕ} → j < 48 → near letter n (spelling j) ≡ false
+none-out letter n out {j} h =
+    unless (near letter n (spelling j)) false
+    (λ e.
+    absurd
+    (out
+    (rw (near-letter letter n (spelling j) e, near-length letter n (spelling j) e)
+    (every-at bound-right 0 48 bounds-right {k = j} (omega arith) h))))
+    refl
+
 pub none-near : (letter n : ℕ) → (Bounded letter n → ⊥) → First (near letter n) 0 48
 none-near letter n out = record {
   onward = omega arith;
   in-table = omega arith;
-  none = λ j h b. unless (near letter n (spelling j)) false
-      (λ e. absurd (out (rw (near-letter letter n (spelling j) e, near-length letter n (spelling j) e) (bounds-at b)))) refl;
+  none = λ j h b. none-out letter n (λ t. out (bounded-holds letter n t)) b;
   there = λ h. absurd (omega arith);
 }
+
+-- at most three keywords are near any letter and length
+abbrev few-right : ℕ → ℕ → Bool
+few-right letter n = leb (count (near letter n) keywords) 3
+
+fews-right : T (every (λ letter. every (few-right letter) 2 10) 97 26)
+unfolding count near keywords lower
+fews-right = tt
+
+few-in : {letter n : ℕ} → Bounded letter n → count (near letter n) keywords ≤ 3
+few-in {letter} {n} b =
+    let line = every-at (λ l. every (few-right l) 2 10) 97 26 fews-right {k = letter} (b .a-on) (omega arith) in
+    leb→le _ _ (every-at (few-right letter) 2 10 line {k = n} (b .two-on) (omega arith))
+
+count-none : (test : List ℕ → Bool) (vs : List String) → ((j : ℕ) → j < length vs → test (bytes (getD vs j "")) ≡ false) → count test vs ≡ 0
+unfolding count
+count-none test [] none = refl
+count-none test (v ∷ vs) none = rw (none 0 (omega arith)) (count-none test vs (λ j h. none (suc j) (omega arith)))
+
+by-test : {C : Type 0} (b : Bool) → (T b → C) → ((T b → ⊥) → C) → C
+by-test true passed failed = passed tt
+by-test false passed failed = failed (λ t. t)
+
+pub few-near : (letter n : ℕ) → count (near letter n) keywords ≤ 3
+unfolding spelling keywords
+few-near letter n =
+    by-test (bounded letter n) (λ t. few-in (bounded-holds letter n t))
+    (λ out. let z = count-none (near letter n) keywords (λ j h. none-out letter n out h) in omega arith)
 
 -- no two keywords are the same but for case
 abbrev apart : ℕ → ℕ → Bool

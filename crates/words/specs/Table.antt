@@ -25,6 +25,12 @@ unfolding bytes
 first-from i test [] = i
 first-from i test (v ∷ vs) = cond (test (bytes v)) i (first-from (suc i) test vs)
 
+-- how many of the spellings pass a test
+unfoldable pub count : (List ℕ → Bool) → List String → ℕ
+unfolding bytes
+count test [] = 0
+count test (v ∷ vs) = cond (test (bytes v)) (suc (count test vs)) (count test vs)
+
 -- row i, of a spelling with others after it: the spelling filled with zeros to 12 bytes, its kind, and the next row near it
 unfoldable pub row : ℕ → List ℕ → List String → List ℕ
 unfolding near first-from
