@@ -124,8 +124,9 @@ fn list_that_uses(rule: u32, cases: &Cases, chart: &Chart, random: &mut Random) 
         if kinds.len() > 80 {
             continue;
         }
-        let Meaning::Records(records) = chart.meaning(&kinds) else {
-            panic!("{kinds:?} is derived");
+        let records = match chart.meaning(&kinds) {
+            Meaning::Records(records) => records,
+            Meaning::Blame(token) => panic!("{kinds:?} is derived, and blamed at {token}"),
         };
         if NEVER.contains(&rule) || records.iter().any(|record| record[0] == rule) {
             return kinds;

@@ -89,10 +89,11 @@ fn kinds_compared_by_their_low_part() {
 #[test]
 fn spans_that_leave_the_text_cut_short() {
     assert_noticed(spellings(1, CASES, |text, tokens, record| {
-        let Some(&[_, first, length]) = tokens.chunks_exact(3).nth(record) else {
-            return &[];
+        let (first, length) = match tokens.chunks_exact(3).nth(record) {
+            Some(&[_, first, length]) => (first as usize, length as usize),
+            _ => (0, 0),
         };
-        let first = text.len().min(first as usize);
-        &text[first..text.len().min(first + length as usize)]
+        let end = text.len();
+        &text[end.min(first)..end.min(first + length)]
     }));
 }

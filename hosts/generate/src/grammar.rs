@@ -26,7 +26,7 @@ impl Grammar {
     /// The names of the rules, from rule 1 on.
     pub fn names() -> Vec<String> {
         let words = words(TEXT);
-        let name = |at: usize| words[at - 1].trim_matches(['<', '>']).to_string();
+        let name = |at: usize| words[at - 1].trim_matches(&['<', '>'][..]).to_string();
         (0..words.len()).filter(|&at| words[at] == "::=").map(name).collect()
     }
 
@@ -70,7 +70,7 @@ fn word_length(rest: &str) -> usize {
     match rest.as_bytes()[0] {
         b'"' => closed_by('"'),
         b'<' => closed_by('>'),
-        b'(' if second.is_some_and(|next| next.is_ascii_digit()) => closed_by(')'),
+        b'(' if second.map_or(false, |next| next.is_ascii_digit()) => closed_by(')'),
         b':' => 3,
         _ => 1,
     }

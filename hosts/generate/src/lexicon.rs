@@ -85,12 +85,11 @@ fn class(bytes: &[u8], kinds: &Kinds) -> Option<Class> {
     if is_word(bytes) {
         return Some(Class::Word);
     }
-    if bytes.strip_prefix(b"_").is_some_and(is_word) {
+    if bytes.strip_prefix(b"_").map_or(false, is_word) {
         return Some(Class::Escaped);
     }
-    let numbers: [(u32, fn(&[u8]) -> bool); 3] = [(2, is_integer), (3, is_floating), (4, is_fixed)];
-    if let Some((kind, _)) = numbers.iter().find(|(_, test)| test(bytes)) {
-        return Some(Class::Number(*kind));
+    if let Some(kind) = [is_integer(bytes), is_floating(bytes), is_fixed(bytes)].iter().position(|&is| is) {
+        return Some(Class::Number(2 + kind as u32));
     }
     let spelling = std::str::from_utf8(bytes).ok()?;
     crate::kind::MARKS.split(' ').any(|mark| mark == spelling).then(|| Class::Mark(kinds.of(spelling)))
@@ -101,7 +100,7 @@ fn is_word_byte(byte: u8) -> bool {
 }
 
 fn is_word(bytes: &[u8]) -> bool {
-    bytes.first().is_some_and(u8::is_ascii_alphabetic) && bytes.iter().all(|&byte| is_word_byte(byte))
+    bytes.first().map_or(false, u8::is_ascii_alphabetic) && bytes.iter().all(|&byte| is_word_byte(byte))
 }
 
 fn all_digits(bytes: &[u8], radix: u32) -> bool {

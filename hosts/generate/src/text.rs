@@ -54,13 +54,10 @@ fn wild_gap(before: &[u8], token: &[u8], random: &mut Random) -> Vec<u8> {
 
 /// Whether the two tokens stay two with nothing between them: one is a mark, and if both are they share no byte.
 fn may_touch(before: &[u8], token: &[u8]) -> bool {
-    let (Some(last), Some(first)) = (before.last(), token.first()) else {
-        return true;
-    };
     let is_mark = |byte: &u8| byte.is_ascii_punctuation() && !b"_.'\"".contains(byte);
-    match (is_mark(last), is_mark(first)) {
-        (false, false) => false,
-        (true, true) => last != first && *last != b'/',
+    match (before.last(), token.first()) {
+        (Some(last), Some(first)) if is_mark(last) && is_mark(first) => last != first && *last != b'/',
+        (Some(last), Some(first)) => is_mark(last) || is_mark(first),
         _ => true,
     }
 }

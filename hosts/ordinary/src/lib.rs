@@ -87,11 +87,10 @@ pub fn read_tree(tokens: &[u32], token_count: usize, text_length: usize, tree: &
 
 /// The bytes of one token; none if the table has no such record or its span leaves the text.
 pub fn spelling<'a>(text: &'a [u8], tokens: &[u32], record: usize) -> &'a [u8] {
-    let Some(&[_, first, length]) = tokens.chunks_exact(3).nth(record) else {
-        return &[];
-    };
-    let (first, length) = (first as usize, length as usize);
-    text.get(first..first + length).unwrap_or(&[])
+    match tokens.chunks_exact(3).nth(record) {
+        Some(&[_, first, length]) => text.get(first as usize..first as usize + length as usize).unwrap_or(&[]),
+        _ => &[],
+    }
 }
 
 fn depth_is_good(depth: u32) -> bool {

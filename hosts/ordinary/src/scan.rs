@@ -21,8 +21,9 @@ pub fn scan(text: &[u8], tokens: &mut [u32]) -> Result<usize, Fault> {
     let mut at = 0;
     loop {
         at = skip_blanks(text, at)?;
-        let Some(&first) = text.get(at) else {
-            return Ok(count);
+        let first = match text.get(at) {
+            Some(&first) => first,
+            None => return Ok(count),
         };
         let (kind, end) = lexeme(text, at, first)?;
         if let Some(record) = records.next() {
@@ -65,7 +66,7 @@ fn lexeme(text: &[u8], start: usize, first: u8) -> Lexeme {
         b'A'..=b'Z' | b'a'..=b'z' => word(text, start),
         b'_' => escaped_identifier(text, start, next),
         b'0'..=b'9' => numeral(text, start),
-        b'.' if next.is_some_and(|byte| byte.is_ascii_digit()) => numeral(text, start),
+        b'.' if matches!(next, Some(b'0'..=b'9')) => numeral(text, start),
         b'\'' | b'"' => quoted(text, start, start),
         _ => mark(first, next, start),
     }
@@ -116,7 +117,7 @@ fn escaped_identifier(text: &[u8], start: usize, next: Option<u8>) -> Lexeme {
 /// An integer, floating or fixed literal; `start` is at a digit, or at a point before a digit.
 fn numeral(text: &[u8], start: usize) -> Lexeme {
     let (kind, end) = hexadecimal(text, start).unwrap_or_else(|| decimal(text, start));
-    if text.get(end).is_some_and(|&byte| is_word_byte(byte)) {
+    if text.get(end).map_or(false, |&byte| is_word_byte(byte)) {
         return Err(bad_literal(start));
     }
     Ok((kind, end))
@@ -225,11 +226,11 @@ fn escape(text: &[u8], at: usize, wide: bool) -> Result<Character, u32> {
 fn numbered(text: &[u8], start: usize, limit: usize, radix: u32) -> Result<Character, u32> {
     let mut value = 0;
     let mut end = start;
-    while end < start + limit {
-        let Some(digit) = text.get(end).and_then(|&byte| (byte as char).to_digit(radix)) else {
-            break;
-        };
-        value = value * radix + digit;
+    for &byte in text[start..].iter().take(limit) {
+        match (byte as char).to_digit(radix) {
+            Some(digit) => value = value * radix + digit,
+            None => break,
+        }
         end += 1;
     }
     if end == start {

@@ -7,14 +7,11 @@ use std::process::ExitCode;
 use std::{env, fs};
 
 fn main() -> ExitCode {
-    let Some(file) = env::args().nth(1) else {
-        eprintln!("usage: tree FILE");
-        return ExitCode::from(2);
-    };
+    let file = env::args().nth(1).unwrap_or_default();
     let text = match fs::read(&file) {
         Ok(text) => text,
         Err(error) => {
-            eprintln!("{file}: {error}");
+            eprintln!("{file}: {error}\nusage: tree FILE");
             return ExitCode::from(2);
         }
     };

@@ -41,12 +41,12 @@ fn compare(seed: u64, count: usize) -> bool {
 
 fn main() -> ExitCode {
     let numbers: Vec<u64> = env::args().skip(1).filter_map(|word| word.parse().ok()).collect();
-    let [seed, count] = numbers[..] else {
-        eprintln!("usage: compare SEED CASES");
-        return ExitCode::from(2);
-    };
-    match compare(seed, count as usize) {
-        true => ExitCode::SUCCESS,
-        false => ExitCode::FAILURE,
+    match numbers[..] {
+        [seed, count] if compare(seed, count as usize) => ExitCode::SUCCESS,
+        [_, _] => ExitCode::FAILURE,
+        _ => {
+            eprintln!("usage: compare SEED CASES");
+            ExitCode::from(2)
+        }
     }
 }

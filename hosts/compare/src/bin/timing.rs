@@ -6,7 +6,6 @@
 use generate::sentence::Sentences;
 use generate::text::{spell, Layout};
 use generate::{Grammar, Random};
-use std::hint::black_box;
 use std::time::Instant;
 
 const SIZES: [(&str, usize); 3] = [("1 KB", 1 << 10), ("100 KB", 100 << 10), ("1 MB", 1 << 20)];
@@ -40,14 +39,16 @@ fn cases(text: &[u8]) -> [(&'static str, Vec<u8>); 3] {
 /// The best and the median time of each of two calls on these tables, in microseconds.
 fn time<T>(rounds: usize, tables: &mut T, clear: impl Fn(&mut T), calls: [&dyn Fn(&mut T) -> u32; 2]) -> [[f64; 2]; 2] {
     let mut times = [Vec::new(), Vec::new()];
+    let mut replies = [0; 2];
     for turn in 0..2 * rounds {
         // One reader, the other, the other, the one: neither always comes second.
         let reader = (turn / 2 + turn) % 2;
         clear(tables);
         let start = Instant::now();
-        black_box(calls[reader](tables));
+        replies[reader] = calls[reader](tables);
         times[reader].push(start.elapsed().as_nanos() as f64 / 1000.0);
     }
+    assert_eq!(replies[0], replies[1], "the readers agree");
     times.map(|mut times| {
         times.sort_by(f64::total_cmp);
         [times[0], times[times.len() / 2]]
@@ -119,12 +120,14 @@ fn print_stack(grammar: &Grammar) {
     for way in 0..WAYS {
         let text = spell(&nested(way, 64, grammar), grammar, Layout::Tidy, &mut Random::new(1));
         let (mut tokens, mut tree) = (vec![0; 3 * text.len()], vec![0; 8 * text.len()]);
+        let mut replies = [0; 2];
         let theirs = compare::stack::of_call(&mut || {
-            black_box(ordinary::read(&text, &mut tokens, &mut tree, 64));
+            replies[0] = ordinary::read(&text, &mut tokens, &mut tree, 64).number;
         });
         let ours = compare::stack::of_call(&mut || {
-            black_box(idl::raw::read(&text, &mut tokens, &mut tree, 64));
+            replies[1] = idl::raw::read(&text, &mut tokens, &mut tree, 64).number;
         });
+        assert_eq!(replies[0], replies[1], "the readers agree");
         deepest = [deepest[0].max(theirs), deepest[1].max(ours)];
     }
     println!("\nStack of the deepest call at depth 64: ordinary {} bytes, proved {} bytes.", deepest[0], deepest[1]);
