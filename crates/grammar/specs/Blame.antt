@@ -1,4 +1,4 @@
--- "The place of blame is the token where the tokens before it begin some derivable list and with it they don't, or the end."
+-- Blame: "the token where the tokens before it begin some derivable list and with it they don't, or the end".
 -- Definitions; and a list has at most one place of blame, none if it is derived.
 use Prim.Native.Nat.{ℕ, suc, _≤_, _<_}
 use mathlib.Core.Path.{_≡_}

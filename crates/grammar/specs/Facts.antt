@@ -1,4 +1,4 @@
--- Facts on the rules of edition 1: they are spelled right, each has its use, and the errors of other readers are not in them.
+-- Facts on the rules of edition 1: they are spelled right, each has its use, other readers' errors are not in them.
 -- Computed, each as one test over the table.
 use Prim.Native.Nat.{ℕ, zero, suc}
 use Prim.Native.String.{String}
@@ -106,8 +106,8 @@ unfoldable pub uses : (a b : String) → Bool
 unfolding elem place names published rules-in right-side idl
 uses a b = elem (place b (names published)) (rules-in (right-side idl (place a (names published))))
 
--- "Errors other readers have made": shift and addition in one rank or turned round; sequences as parameter or result types;
--- two signs; a forward interface with a base list
+-- "Errors other readers have made": shift and addition in one rank or turned round; sequences as parameter or
+-- result types; two signs; a forward interface with a base list
 pub errors-avoided :
     T (uses "and_expr" "shift_expr" && (uses "shift_expr" "add_expr" && uses "add_expr" "mult_expr")) ×
     T (not (uses "add_expr" "shift_expr") && not (uses "param_type_spec" "sequence_type")) ×
@@ -147,7 +147,7 @@ pub marks-nest :
 unfolding depth kinds-of
 marks-nest = (refl, refl)
 
--- the rules of edition 1 nest: each closes its own marks, and no rule holds itself but within marks or by left recursion
+-- the rules of edition 1 nest: each closes its own marks, and none holds itself but within marks or by left recursion
 pub rules-nest : T (nests idl)
 unfolding nests idl
 rules-nest = tt

@@ -1,5 +1,5 @@
 -- The limitless meaning of a list of tokens: its one derivation, or its one place of blame.
--- A definition. That there is always one of the two, and never both, is a theorem for each edition that passes its test.
+-- A definition. That it is always one of the two, and never both, is a theorem for each edition that passes its test.
 use Prim.Native.Nat.{ℕ}
 use mathlib.Core.List.{List}
 use Rattle.grammar.specs.Forest.{Forest}

@@ -1,5 +1,5 @@
 -- "Types hold members that hold types, and expressions hold expressions, so depth bounds the nesting."
--- By induction on the derivation: a use within marks stands deeper, any other is of a rule of lower rank, or is left recursion.
+-- By induction on the derivation: a use stands within marks, or is of a rule of lower rank, or is left recursion.
 use Prim.Native.Nat.{ℕ, zero, suc, _+_, _*_, _-_, _≤_, _<_, pred, max}
 use mathlib.Core.Path.{_≡_, refl, ap, sym, _∙_, subst}
 use mathlib.Core.Logic.{_⊎_, inl, inr}

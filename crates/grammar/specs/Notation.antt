@@ -26,7 +26,7 @@ pub data Written : Type 0 where
 pub data Rule : Type 0 where
   _::=_ : String → Written → Rule
 
--- "Identifiers and literals other than boolean count as tokens, not nonterminals": their kinds are 1 to 8, in this order
+-- "Identifiers and literals other than boolean count as tokens, not nonterminals": kinds 1 to 8, in this order
 unfoldable pub token-names : List String
 token-names =
     "identifier" ∷ "integer_literal" ∷ "floating_pt_literal" ∷ "fixed_pt_literal" ∷ "character_literal" ∷

@@ -24,7 +24,8 @@ shape (node end r c) = 1
 shape (node (leaf f k) r c) = 2
 shape (node (node f r′ c′) r c) = 2
 
--- "A use of a rule is recorded unless its right side, as used, is exactly one nonterminal; rules 1 and 8 are recorded always."
+-- "A use of a rule is recorded unless its right side, as used, is exactly one nonterminal; rules 1 and 8 are
+-- recorded always."
 unfoldable pub recorded : Edition → (rule shape : ℕ) → Bool
 unfolding elem
 recorded E r n = not (eqb n 1) || elem r (E .always)

@@ -1,4 +1,4 @@
--- Right sides of rules as data, and an edition: a table of rules, the rule that a text is read by, and the rules recorded always.
+-- Right sides of rules as data; an edition: a table of rules, which rule a text is read by, which are recorded always.
 -- Assumes nothing: definitions.
 use Prim.Native.Nat.{ℕ}
 use mathlib.Core.List.{List}

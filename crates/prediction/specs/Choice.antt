@@ -1,4 +1,4 @@
--- Where the kind cannot begin a plan, the reader leaves it empty or blames at once: the last of several choices needs no test.
+-- Where the kind cannot begin a plan, the reader leaves it empty or blames at once: the last choice needs no test.
 -- By induction on the run.
 use Prim.Native.Nat.{ℕ}
 use mathlib.Core.Path.{_≡_, refl, ap, sym, _∙_, subst}

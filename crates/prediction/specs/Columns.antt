@@ -1,4 +1,4 @@
--- What is claimed of each frame, computed by rounds from the plans alone, and the test that a round more changes nothing.
+-- What is claimed of each frame, computed from the plans by rounds, and the test that a round more changes nothing.
 -- Definitions; the laws give each claim at each rule number from the one test over the list.
 use Prim.Native.Nat.{ℕ, zero, suc, _≤_}
 use mathlib.Core.Path.{_≡_, refl}

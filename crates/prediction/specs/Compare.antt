@@ -1,4 +1,4 @@
--- Two derivations of a plan from one place end together with one forest, or the shorter ends at a kind that could go on.
+-- Two derivations of a plan from one place end together in one forest, or the shorter ends at a kind that could go on.
 -- By induction on both; where they part, the test of the plan says that no kind could do both.
 use Prim.Native.Nat.{ℕ, suc, _≤_, _<_}
 use mathlib.Core.Path.{_≡_, refl, ap, sym, subst}

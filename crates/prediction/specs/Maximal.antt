@@ -1,4 +1,4 @@
--- Whatever kinds agree with s up to where the reader stopped, their derivations end there, or earlier at a kind that could go on.
+-- Where kinds agree with s up to the reader's stop, their derivations end there, or earlier at a kind that could go on.
 -- By induction on the run and the derivation beside it.
 use Prim.Native.Nat.{ℕ, suc, _≤_, _<_}
 use mathlib.Core.Path.{_≡_, refl, ap, sym, _∙_}

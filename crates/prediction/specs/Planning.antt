@@ -1,4 +1,4 @@
--- How the plans of an edition are written: most come from their rules, the rest are sketched by hand with the rules they open.
+-- How the plans of an edition are made: most from their rules, the rest by hand, with the rules that they open.
 -- Definitions alone: whatever they make is held to the test of the edition.
 use Prim.Native.Nat.{ℕ, suc}
 use mathlib.Core.Bool.{Bool, false, cond}

@@ -102,7 +102,7 @@ within-one s n i w q h h′ u =
 within-plain : (s : ℕ → ℕ) (n i k : ℕ) → s i ≡ k → T (not (opening k)) → Within s n i (suc i)
 within-plain s n i k e u = within-one s n i (λ v. absurd (T-not (opening k) u (subst (λ (x : ℕ). T (opening x)) e v)))
 
--- what is known where the parser stops: every opening mark before is within the setting n, and one that is too deep is not
+-- where the reader stops: every opening mark before is within the setting n, and one that is too deep is not
 pub data StopDepth (s : ℕ → ℕ) (n i : ℕ) : Outcome → Type 0 where
   depth-done : {j : ℕ} {g : Forest} → Within s n i j → StopDepth s n i (done j g)
   depth-blame : {q : ℕ} → Within s n i q → StopDepth s n i (blame q)
