@@ -1,4 +1,4 @@
--- The rules of the keyword table, each by one test that antt computes: kinds, spellings, next rows, index, no two alike.
+-- The rules of the keyword table, each by one test that antt computes: kinds, spellings, next rows, index, order, no two alike.
 -- A law of intervals turns the test into the rule at each row. Assumes nothing.
 use mathlib.Core.Path.{_≡_, refl, sym}
 use mathlib.Core.Bool.{Bool, true, false, _&&_, _||_}
@@ -12,7 +12,7 @@ use Rattle.kinds.specs.Kinds.{bytes, keywords, same}
 use Rattle.text.specs.Bytes.{at, from}
 use Rattle.text.specs.Words.{lower, same-but-case}
 use Rattle.text.proofs.Ranges.{agree, agreed, and-left, and-right, every, every-at, or-else, within}
-use Rattle.words.specs.Table.{count, near, table, spelling, First}
+use Rattle.words.specs.Table.{before, count, near, near-to, table, spelling, First}
 use Rattle.words.proofs.Spellings.{unless, same-equal, near-length, near-letter}
 
 pub table-length : length table ≡ 932
@@ -96,13 +96,13 @@ first-holds test i r t =
 
 -- a row holds the next row near it
 abbrev next-right : ℕ → Bool
-next-right i = first (near (lower (at (spelling i) 0)) (length (spelling i))) (suc i) (getD table (i * 14 + 13) 0)
+next-right i = first (near-to (spelling i)) (suc i) (getD table (i * 14 + 13) 0)
 
 nexts-right : T (every next-right 0 48)
 unfolding table spelling first near lower
 nexts-right = tt
 
-pub next-at : {i : ℕ} → i < 48 → First (near (lower (at (spelling i) 0)) (length (spelling i))) (suc i) (getD table (i * 14 + 13) 0)
+pub next-at : {i : ℕ} → i < 48 → First (near-to (spelling i)) (suc i) (getD table (i * 14 + 13) 0)
 next-at {i} h = first-holds _ _ _ (every-at next-right 0 48 nexts-right {k = i} (omega arith) h)
 
 -- the index holds the first row for a letter and a length
@@ -153,7 +153,8 @@ few-in {letter} {n} b =
     let line = every-at (λ l. every (few-right l) 2 10) 97 26 fews-right {k = letter} (b .a-on) (omega arith) in
     leb→le _ _ (every-at (few-right letter) 2 10 line {k = n} (b .two-on) (omega arith))
 
-count-none : (test : List ℕ → Bool) (vs : List String) → ((j : ℕ) → j < length vs → test (bytes (getD vs j "")) ≡ false) → count test vs ≡ 0
+count-none : (test : List ℕ → Bool) (vs : List String) →
+    ((j : ℕ) → j < length vs → test (bytes (getD vs j "")) ≡ false) → count test vs ≡ 0
 unfolding count
 count-none test [] none = refl
 count-none test (v ∷ vs) none = rw (none 0 (omega arith)) (count-none test vs (λ j h. none (suc j) (omega arith)))
@@ -168,6 +169,22 @@ few-near letter n =
     by-test (bounded letter n) (λ t. few-in (bounded-holds letter n t))
     (λ out. let z = count-none (near letter n) keywords (λ j h. none-out letter n out h) in omega arith)
 
+-- a rule of each two rows
+pairs-at : (test : ℕ → ℕ → Bool) → T (every (λ j. every (test j) 0 j) 0 48) → {i j : ℕ} → i < j → j < 48 → T (test j i)
+pairs-at test t {i} {j} h l =
+    every-at (test j) 0 j (every-at (λ k. every (test k) 0 k) 0 48 t {k = j} (omega arith) l) {k = i} (omega arith) (omega arith)
+
+-- the rows stand in byte order of their spelling
+abbrev order-right : ℕ → ℕ → Bool
+order-right j i = agree true (before (spelling i) (spelling j))
+
+orders-right : T (every (λ j. every (order-right j) 0 j) 0 48)
+unfolding spelling before
+orders-right = tt
+
+pub in-order : {i j : ℕ} → i < j → j < 48 → before (spelling i) (spelling j) ≡ true
+in-order {i} {j} h l = sym (agreed true _ (pairs-at order-right orders-right h l))
+
 -- no two keywords are the same but for case
 abbrev apart : ℕ → ℕ → Bool
 apart j i = agree false (same-but-case (spelling j) (spelling i))
@@ -177,6 +194,4 @@ unfolding spelling same-but-case
 distinct = tt
 
 pub distinct-at : {i j : ℕ} → i < j → j < 48 → same-but-case (spelling j) (spelling i) ≡ false
-distinct-at {i} {j} h l =
-    let before = every-at (λ k. every (apart k) 0 k) 0 48 distinct {k = j} (omega arith) l in
-    sym (within (λ k. same-but-case (spelling j) (spelling k)) false 0 j before i (omega arith, omega arith))
+distinct-at {i} {j} h l = sym (agreed false _ (pairs-at apart distinct h l))

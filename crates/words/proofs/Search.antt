@@ -1,6 +1,6 @@
 -- The search through the rows near a word sorts it as the search through all keywords does.
 -- A row that is not near the word is not the same, case aside, and no two rows are. Assumes nothing.
-use mathlib.Core.Path.{_≡_, refl, ap, sym, _∙_}
+use mathlib.Core.Path.{_≡_, refl, ap, subst, sym, _∙_}
 use mathlib.Core.Bool.{Bool, true, false, cond}
 use mathlib.Core.List.{List, [], _∷_}
 use Prim.Native.Nat.{ℕ, zero, suc, _+_, _≤_, _<_}
@@ -12,7 +12,7 @@ use Rattle.kinds.specs.Kinds.{bytes, keywords, keyword, search-from, same, iden
 use Rattle.text.specs.Bytes.{at}
 use Rattle.text.specs.Words.{lower, same-but-case, keyword-but-case, sorted}
 use Rattle.text.specs.declared.Lexeme.the-variants.{Token, OtherCase}
-use Rattle.words.specs.Table.{near, likeness, spelling, First}
+use Rattle.words.specs.Table.{near-to, likeness, spelling, First}
 use Rattle.words.specs.declared.Likeness.{Likeness}
 use Rattle.words.specs.declared.Likeness.the-variants.{Same, ButCase, Different}
 use Rattle.words.proofs.Spellings.{unless, same-equal, same-case, case-near, near-length, near-letter}
@@ -37,21 +37,20 @@ search-found k like w (v ∷ vs) (suc r) h none there =
     let e = search-found (suc k) like w vs r (omega arith) (λ j l. none (suc j) (omega arith)) there in
     rw (none 0 (omega arith)) (omega arith)
 
--- the three answers of a comparison
-told-same : (a b : Bool) → cond a Same (cond b ButCase Different) ≡ Same → a ≡ true
-told-same true b e = refl
-told-same false true e = absurd (let z : _≡_ {A = ℕ} 0 1 = cc in omega arith)
-told-same false false e = absurd (let z : _≡_ {A = ℕ} 0 1 = cc in omega arith)
+-- what an answer of a comparison tells
+abbrev Told : Bool → Bool → Likeness → Type 0
+Told exact but-case Same = exact ≡ true
+Told exact but-case ButCase = (exact ≡ false) × (but-case ≡ true)
+Told exact but-case Different = but-case ≡ false
 
-told-but-case : (a b : Bool) → cond a Same (cond b ButCase Different) ≡ ButCase → (a ≡ false) × (b ≡ true)
-told-but-case true b e = absurd (let z : _≡_ {A = ℕ} 0 1 = cc in omega arith)
-told-but-case false true e = (refl, refl)
-told-but-case false false e = absurd (let z : _≡_ {A = ℕ} 0 1 = cc in omega arith)
+answer : (exact but-case : Bool) → Told exact but-case (cond exact Same (cond but-case ButCase Different))
+answer true but-case = refl
+answer false true = (refl, refl)
+answer false false = refl
 
-told-different : (a b : Bool) → cond a Same (cond b ButCase Different) ≡ Different → b ≡ false
-told-different true b e = absurd (let z : _≡_ {A = ℕ} 0 1 = cc in omega arith)
-told-different false true e = absurd (let z : _≡_ {A = ℕ} 0 1 = cc in omega arith)
-told-different false false e = refl
+told : (w v : List ℕ) {r : Likeness} → r ≡ likeness w v → Told (same w v) (same-but-case w v) r
+unfolding likeness
+told w v e = subst (Told (same w v) (same-but-case w v)) (sym e) (answer (same w v) (same-but-case w v))
 
 -- what holds before a place, at it and after it holds everywhere
 by-place : (P : ℕ → Type 0) (row : ℕ) → ((j : ℕ) → j < row → P j) → P row → ((j : ℕ) → row < j → P j) → (j : ℕ) → P j
@@ -65,13 +64,13 @@ by-place P (suc row) before here after (suc j) =
 pub record Searched (w : List ℕ) (row : ℕ) : Type 0 where
   pub in-table : row ≤ 48
   pub passed : (j : ℕ) → j < row → same-but-case w (spelling j) ≡ false
-  pub there : row < 48 → near (lower (at w 0)) (length w) (spelling row) ≡ true
+  pub there : row < 48 → near-to w (spelling row) ≡ true
 
 module _ (w : List ℕ) where
-  not-near : (v : List ℕ) → near (lower (at w 0)) (length w) v ≡ false → same-but-case w v ≡ false
-  not-near v e = unless (same-but-case w v) (near (lower (at w 0)) (length w) v) (case-near w v) e
+  not-near : (v : List ℕ) → near-to w v ≡ false → same-but-case w v ≡ false
+  not-near v e = unless (same-but-case w v) (near-to w v) (case-near w v) e
 
-  pub searched-first : {r : ℕ} → First (near (lower (at w 0)) (length w)) 0 r → Searched w r
+  pub searched-first : {r : ℕ} → First (near-to w) 0 r → Searched w r
   searched-first f = record {
     in-table = f .in-table;
     passed = λ j h. not-near (spelling j) (f .none j (omega arith) h);
@@ -80,13 +79,12 @@ module _ (w : List ℕ) where
 
   module _ {row : ℕ} (s : Searched w row) where
     pub searched-next : {r : ℕ} → row < 48 → Different ≡ likeness w (spelling row) →
-        First (near (lower (at (spelling row) 0)) (length (spelling row))) (suc row) r → Searched w r
-    unfolding likeness
+        First (near-to (spelling row)) (suc row) r → Searched w r
     searched-next {r} h e f =
         let n = near-length (lower (at w 0)) (length w) (spelling row) (s .there h) in
         let l = near-letter (lower (at w 0)) (length w) (spelling row) (s .there h) in
-        let g : First (near (lower (at w 0)) (length w)) (suc row) r = rw (n, l) f in
-        let here : same-but-case w (spelling row) ≡ false = told-different (same w (spelling row)) (same-but-case w (spelling row)) (sym e) in
+        let g : First (near-to w) (suc row) r = rw (n, l) f in
+        let here : same-but-case w (spelling row) ≡ false = told w (spelling row) e in
         record {
           in-table = g .in-table;
           passed = by-place (λ j. j < r → same-but-case w (spelling j) ≡ false) row (λ j b h. s .passed j b) (λ h. here)
@@ -104,9 +102,9 @@ module _ (w : List ℕ) where
     found-case h e = search-found 16 same-but-case w keywords row h (s .passed) e
 
     pub sorted-same : row < 48 → Same ≡ likeness w (spelling row) → Token (16 + row) (length w) ≡ sorted w (length w)
-    unfolding likeness sorted keyword spelling keywords
+    unfolding sorted keyword spelling keywords
     sorted-same h e =
-        let t = told-same (same w (spelling row)) (same-but-case w (spelling row)) (sym e) in
+        let t = told w (spelling row) e in
         let k : keyword w ≡ 16 + row = search-found 16 same w keywords row h not-spelled t in
         rw (k, lt-ltb 0 (16 + row) (omega arith))
 
@@ -121,9 +119,9 @@ module _ (w : List ℕ) where
         (λ u. sym (distinct-at a l) ∙ ap (λ (v : List ℕ). same-but-case v (spelling row)) (sym (same-equal w (spelling j) u)) ∙ t .1) refl))
 
     pub sorted-but-case : row < 48 → ButCase ≡ likeness w (spelling row) → OtherCase (16 + row) ≡ sorted w (length w)
-    unfolding likeness sorted
+    unfolding sorted
     sorted-but-case h e =
-        let t = told-but-case (same w (spelling row)) (same-but-case w (spelling row)) (sym e) in
+        let t = told w (spelling row) e in
         rw (spelled-none h t, found-case h (t .1), lt-ltb 0 (16 + row) (omega arith))
 
     pub sorted-none : 48 ≤ row → Token identifier (length w) ≡ sorted w (length w)

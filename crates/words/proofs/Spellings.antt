@@ -3,7 +3,7 @@
 use mathlib.Core.Path.{_≡_, refl, ap, sym, _∙_}
 use mathlib.Core.Bool.{Bool, true, false, _&&_, cond, false≢true, and-eq-true-iff, and-assoc, and-true}
 use mathlib.Core.List.{List, [], _∷_}
-use Prim.Native.Nat.{ℕ, zero, suc, _+_, _≤_, _<_}
+use Prim.Native.Nat.{ℕ, suc, _+_, _≤_, _<_}
 use native.Mathlib.Numerals.{add-one}
 use native.Mathlib.Omega.{arith}
 use borrow.Author.Tests.{eqb-true, eq-eqb, ne-eqb}
@@ -13,8 +13,7 @@ use lib.Seq.{drop-cons}
 use Rattle.kinds.specs.Kinds.{same}
 use Rattle.text.specs.Bytes.{at}
 use Rattle.text.specs.Words.{lower, same-but-case}
-use Rattle.words.specs.Table.{near, likeness}
-use Rattle.words.specs.declared.Likeness.{Likeness}
+use Rattle.words.specs.Table.{near, near-to, likeness}
 use Rattle.words.specs.declared.Likeness.the-variants.{Same, ButCase, Different}
 
 -- what fails where a weaker test fails
@@ -57,7 +56,7 @@ case-letter (x ∷ xs) [] e = absurd (false≢true e)
 case-letter (x ∷ xs) (y ∷ ys) e = eqb-true (lower x) (lower y) (and-eq-true-iff (eqb (lower x) (lower y)) (same-but-case xs ys) .0 e .0)
 
 -- the same but for case, they have one length and, case aside, one first letter
-pub case-near : (w v : List ℕ) → same-but-case w v ≡ true → near (lower (at w 0)) (length w) v ≡ true
+pub case-near : (w v : List ℕ) → same-but-case w v ≡ true → near-to w v ≡ true
 unfolding near
 case-near w v e = rw (eq-eqb (length w) (length v) (case-length w v e), eq-eqb (lower (at w 0)) (lower (at v 0)) (case-letter w v e))
 
@@ -100,8 +99,8 @@ module _ (w v : List ℕ) (l : length w ≡ length v) where
     but-case = p .but-case ∙ case-on i h ∙ ap (λ (b : Bool). b && same-but-case (drop (i + 1) w) (drop (i + 1) v)) (eq-eqb _ _ e);
   }
 
-  pub compared-different : {i : ℕ} {exact : Bool} → i < length w → (lower (getD w i 0) ≡ lower (getD v i 0) → ⊥) → Compared w v i exact →
-      Different ≡ likeness w v
+  pub compared-different : {i : ℕ} {exact : Bool} → i < length w → (lower (getD w i 0) ≡ lower (getD v i 0) → ⊥) →
+      Compared w v i exact → Different ≡ likeness w v
   unfolding likeness
   compared-different {i} {exact} h e p =
       let a : same-but-case w v ≡ false =

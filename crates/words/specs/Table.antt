@@ -1,12 +1,12 @@
 -- The keyword table of the code: a row for each keyword, and an index of the rows by first letter and length.
 -- Assumes nothing: these are definitions.
-use mathlib.Core.Bool.{Bool, true, false, _&&_, cond}
+use mathlib.Core.Bool.{Bool, true, false, _&&_, _||_, cond}
 use mathlib.Core.List.{List, [], _∷_, _++_}
 use mathlib.Core.Path.{_≡_}
 use Prim.Native.Char.{code}
 use Prim.Native.Nat.{ℕ, zero, suc, _+_, _-_, _≤_, _<_}
 use Prim.Native.String.{String}
-use lib.Dec.{eqb}
+use lib.Dec.{eqb, ltb}
 use lib.ListN.{length, getD, replicate}
 use Rattle.kinds.specs.Kinds.{bytes, keywords, same}
 use Rattle.text.specs.Bytes.{at}
@@ -18,6 +18,10 @@ use Rattle.words.specs.declared.Likeness.the-variants.{Same, ButCase, Di
 unfoldable pub near : ℕ → ℕ → List ℕ → Bool
 unfolding lower
 near letter n v = eqb n (length v) && eqb letter (lower (at v 0))
+
+-- a spelling with the length and, case aside, the first letter of a word
+abbrev pub near-to : List ℕ → List ℕ → Bool
+near-to w = near (lower (at w 0)) (length w)
 
 -- the place of the first of the spellings, numbered from i, that passes a test; one past the last where none does
 unfoldable pub first-from : ℕ → (List ℕ → Bool) → List String → ℕ
@@ -34,7 +38,7 @@ count test (v ∷ vs) = cond (test (bytes v)) (suc (count test vs)) (count test 
 -- row i, of a spelling with others after it: the spelling filled with zeros to 12 bytes, its kind, and the next row near it
 unfoldable pub row : ℕ → List ℕ → List String → List ℕ
 unfolding near first-from
-row i w vs = w ++ replicate (12 - length w) 0 ++ (16 + i) ∷ first-from (suc i) (near (lower (at w 0)) (length w)) vs ∷ []
+row i w vs = w ++ replicate (12 - length w) 0 ++ (16 + i) ∷ first-from (suc i) (near-to w) vs ∷ []
 
 unfoldable pub rows : ℕ → List String → List ℕ
 unfolding row
@@ -61,6 +65,13 @@ table = rows 0 keywords ++ by-letter 26 (code "a")
 unfoldable pub spelling : ℕ → List ℕ
 unfolding bytes keywords
 spelling i = bytes (getD keywords i "")
+
+-- byte order
+unfoldable pub before : List ℕ → List ℕ → Bool
+before [] [] = false
+before [] (y ∷ ys) = true
+before (x ∷ xs) [] = false
+before (x ∷ xs) (y ∷ ys) = ltb x y || (eqb x y && before xs ys)
 
 -- how a word stands to a spelling
 unfoldable pub likeness : List ℕ → List ℕ → Likeness

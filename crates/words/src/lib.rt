@@ -3,22 +3,24 @@ ghost use mathlib.Core.Bool.{true};
 ghost use mathlib.Core.Path.{_≡_};
 ghost use Prim.Native.Nat.{suc, _+_, _<_};
 ghost use lib.ListN.{length};
-ghost use Rattle.text.specs.Bytes.{at};
 ghost use Rattle.text.specs.Words as text-words;
-ghost use Rattle.words.specs.Table.{table, likeness, spelling, First, near};
+ghost use Rattle.words.specs.Table.{table, likeness, spelling, First, near-to};
 use text::Class;
 use text::Lexeme;
 
-// The table below: its rows, which are numbered from 0, the bytes of a row, and where a row has its kind and its next row.
+// The rows of the table below, numbered from 0.
 const ROWS: usize = 48;
 
+// The bytes of a row.
 const WIDTH: usize = 14;
 
+// Where a row has its kind.
 const KIND: usize = 12;
 
+// Where a row has the next row near it.
 const NEXT: usize = 13;
 
-// Where the index stands, after the rows.
+// Where the index starts.
 const INDEX: usize = 672;
 
 // The keywords in byte order, a row each: the spelling in 12 bytes, the kind, and the next row with the same length and,
@@ -152,7 +154,7 @@ fn likeness_of(w: &[u8], v: &[u8]) -> Likeness
 // The first row with the length and, case aside, the first letter of a word.
 fn first_near(words: &[u8; 932], w: &[u8]) -> usize
     requires { ⌜ now words ≡ table ⌝ }
-    ensures { λ r. ⌜ First (near (text-words.lower (at (now (w .entry)) 0)) (length (now (w .entry)))) 0 r ⌝ }
+    ensures { λ r. ⌜ First (near-to (now (w .entry))) 0 r ⌝ }
 {
     let n = w.len();
     if n < 2 {
@@ -174,7 +176,7 @@ fn first_near(words: &[u8; 932], w: &[u8]) -> usize
 // The next row with the length and, case aside, the first letter of this one.
 fn next_near(words: &[u8; 932], row: usize) -> usize
     requires { ⌜ (now words ≡ table) × (row < 48) ⌝ }
-    ensures { λ r. ⌜ First (near (text-words.lower (at (spelling row) 0)) (length (spelling row))) (suc row) r ⌝ }
+    ensures { λ r. ⌜ First (near-to (spelling row)) (suc row) r ⌝ }
 {
     words[row * WIDTH + NEXT] as usize
 }
@@ -190,7 +192,7 @@ fn kind_of(words: &[u8; 932], row: usize) -> u32
 // Compares a word with a keyword that has its length and, case aside, its first letter.
 fn likeness_to(words: &[u8; 932], row: usize, w: &[u8]) -> Likeness
     requires { ⌜ (now words ≡ table) × (row < 48) ⌝ }
-    requires { ⌜ near (text-words.lower (at (now w) 0)) (length (now w)) (spelling row) ≡ true ⌝ }
+    requires { ⌜ near-to (now w) (spelling row) ≡ true ⌝ }
     ensures { λ r. ⌜ r ≡ likeness (now (w .entry)) (spelling row) ⌝ }
 {
     let all = &words[..];

@@ -3,7 +3,6 @@
 use mathlib.Core.Path.{_≡_, sym, _∙_}
 use mathlib.Core.Bool.{cond}
 use Prim.Native.Nat.{_-_}
-use native.Mathlib.Omega.{arith}
 use borrow.Author.Needs.{needs}
 use lib.ListN.{length}
 use Rattle.words.specs.Table.{likeness}
@@ -37,7 +36,8 @@ loop-again c =
 
 -- every byte is passed
 whole : (c : tie.After-loop Inv-loop μ-loop) →
-    cond (c .before .loop .exact) Same ButCase ≡ likeness (c .before .before .before .before .args .w .now) (c .before .before .before .before .args .v .now)
+    let a = c .before .before .before .before .args in
+    cond (c .before .loop .exact) Same ButCase ≡ likeness (a .w .now) (a .v .now)
 whole c = compared-all _ _ (c .before .before .before .before .pre) (c .loop-test .left) (c .before .loop .inv)
 
 returns-2 : tie.Need-returns-2 Inv-loop μ-loop

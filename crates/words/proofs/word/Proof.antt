@@ -1,6 +1,6 @@
 -- `words::word` meets its contract: the run at the front, sorted.
 -- A run is no longer than the text, so the part that is lent has its length. Assumes nothing.
-use mathlib.Core.Path.{_≡_, ap, sym, _∙_}
+use mathlib.Core.Path.{ap, sym, _∙_}
 use Prim.Native.Nat.{ℕ, _≤_}
 use borrow.Author.Needs.{needs}
 use lib.ListN.{length, take}
