@@ -10,7 +10,7 @@ use native.Mathlib.Omega.{arith}
 use lib.Dec.{T, eqb, ltb, ltb→lt, nltb→le, eqb→eq, eqb-refl}
 use lib.ListN.{getD, length, List·getD-eq-default}
 use Rattle.kinds.specs.Kinds.{marks}
-use Rattle.grammar.specs.Sets.{elem}
+use Rattle.grammar.specs.Sets.{elem, and-left, and-right, or-cases}
 use Rattle.grammar.specs.Forest.{Forest, end, leaf, node}
 use Rattle.grammar.specs.Rule.{RightSide, terminal, nonterminal, sequence, choice, nothing, repeat, Edition}
 use Rattle.grammar.specs.Rule.{right-side}
@@ -72,18 +72,6 @@ pub record Nests (E : Edition) (rank : ℕ → ℕ) : Type 0 where
   pub own-marks : (r : ℕ) → T (balanced (right-side E r) 0)
   pub all-closed : (r : ℕ) → open-behind (right-side E r) 0 ≡ 0
   pub by-rank : (r : ℕ) → T (ranked rank r true (right-side E r) 0)
-
-and-left : (a b : Bool) → T (a && b) → T a
-and-left true b t = tt
-and-left false b t = absurd t
-
-and-right : (a b : Bool) → T (a && b) → T b
-and-right true b t = t
-and-right false b t = absurd t
-
-or-cases : (a b : Bool) → T (a || b) → T a ⊎ T b
-or-cases true b t = inl tt
-or-cases false b t = inr t
 
 pred-within : (m n : ℕ) → m ≤ n → pred m ≤ n
 pred-within m n h = omega arith
@@ -253,7 +241,8 @@ nest-at rank r (e ∷ es) u zero = rw add-zero (and-left (rule-nests rank r e) (
 nest-at rank r (e ∷ es) u (suc n) =
     rw (add-suc, ← suc-add) (nest-at rank (suc r) es (and-right (rule-nests rank r e) (all-nest rank (suc r) es) u) n)
 
-open-inside : (ks : List ℕ) (q : ℕ) → T (opening (kind-at ks q)) → q < length ks
+-- an opening mark stands inside the list
+pub open-inside : (ks : List ℕ) (q : ℕ) → T (opening (kind-at ks q)) → q < length ks
 unfolding opening elem
 open-inside ks q u = go (ltb q (length ks)) (ltb→lt q (length ks)) (nltb→le q (length ks))
   where

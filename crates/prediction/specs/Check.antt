@@ -9,8 +9,8 @@ use lib.Dec.{T, eqb, leb, T-not, eqb→eq, leb→le}
 use lib.ListN.{length}
 use Rattle.grammar.specs.Nesting.{nests}
 use Rattle.grammar.specs.Rule.{Edition, right-side}
-use Rattle.grammar.specs.Sets.{elem}
-use Rattle.prediction.specs.Sets.{and-left, and-right, only, subset, disjoint}
+use Rattle.grammar.specs.Sets.{elem, and-left, and-right}
+use Rattle.prediction.specs.Sets.{only, subset, disjoint}
 use Rattle.prediction.specs.Plan.{Plan, call, wrap, seq, skip}
 use Rattle.prediction.specs.Typing.{Table, null, first, follow-last, typed, Typed}
 use Rattle.prediction.specs.Word.{Generates, produces, productive, generate}

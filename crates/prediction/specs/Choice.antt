@@ -7,9 +7,9 @@ use mathlib.Core.Bool.{not, _&&_, _||_}
 use native.Mathlib.Omega.{arith}
 use lib.Dec.{T, T-not, not-T}
 use Rattle.grammar.specs.Forest.{Forest}
-use Rattle.grammar.specs.Sets.{elem}
-use Rattle.prediction.specs.Sets.{and-left, and-right, or-cases, or-left, or-right, decide, only, elem-left}
-use Rattle.prediction.specs.Sets.{elem-right, elem-only, elem-eq, and-both}
+use Rattle.grammar.specs.Sets.{elem, and-left, and-right, or-cases}
+use Rattle.prediction.specs.Sets.{or-left, or-right, decide, only, elem-left, elem-right, elem-only, elem-eq}
+use Rattle.prediction.specs.Sets.{and-both}
 use Rattle.prediction.specs.Plan.{Plan, seq, alt}
 use Rattle.prediction.specs.Typing.{Table, null, first, Typed}
 use Rattle.prediction.specs.Run.{Outcome, done, blame, stopped, goes, turns, Runs, run-token, run-miss}
@@ -17,7 +17,7 @@ use Rattle.prediction.specs.Run.{run-shut, run-deep, run-inside, run-gro
 use Rattle.prediction.specs.Run.{run-call-stop, run-wrap, run-seq, run-seq-stop, run-left, run-right}
 use Rattle.prediction.specs.Run.{run-neither, run-skip, run-last, run-more, run-more-stop}
 
--- the parser read nothing
+-- the reader read nothing
 pub data Skips (i : ℕ) : Outcome → Type 0 where
   skips : {g : Forest} → Skips i (done i g)
 

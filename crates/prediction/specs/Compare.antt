@@ -7,9 +7,9 @@ use mathlib.Core.List.{[], _∷_, _++_}
 use native.Mathlib.Omega.{arith}
 use lib.Dec.{T, ltb, T-not}
 use Rattle.grammar.specs.Forest.{Forest, leaf, join}
-use Rattle.grammar.specs.Sets.{elem}
-use Rattle.prediction.specs.Sets.{and-left, and-right, only, disjoint, elem-left, elem-right, elem-only}
-use Rattle.prediction.specs.Sets.{elem-eq, disjoint-not, and-both}
+use Rattle.grammar.specs.Sets.{elem, and-left, and-right}
+use Rattle.prediction.specs.Sets.{only, disjoint, elem-left, elem-right, elem-only, elem-eq, disjoint-not}
+use Rattle.prediction.specs.Sets.{and-both}
 use Rattle.prediction.specs.Plan.{Plan, group, call, seq, alt, many, PlanDerives, plan-token, plan-group}
 use Rattle.prediction.specs.Plan.{plan-call, plan-wrap, plan-seq, plan-left, plan-right, plan-skip, plan-none}
 use Rattle.prediction.specs.Plan.{plan-more}

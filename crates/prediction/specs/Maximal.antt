@@ -7,8 +7,8 @@ use mathlib.Core.Bool.{Bool, true, false, not, _&&_, _||_}
 use native.Mathlib.Omega.{arith}
 use lib.Dec.{T, T-not}
 use Rattle.grammar.specs.Forest.{Forest, leaf, join}
-use Rattle.grammar.specs.Sets.{elem}
-use Rattle.prediction.specs.Sets.{and-left, and-right, or-cases, or-left, or-right}
+use Rattle.grammar.specs.Sets.{elem, and-left, and-right, or-cases}
+use Rattle.prediction.specs.Sets.{or-left, or-right}
 use Rattle.prediction.specs.Plan.{Plan, group, call, seq, alt, many, PlanDerives, plan-token, plan-group}
 use Rattle.prediction.specs.Plan.{plan-call, plan-wrap, plan-seq, plan-left, plan-right, plan-skip, plan-none}
 use Rattle.prediction.specs.Plan.{plan-more}
@@ -24,7 +24,7 @@ use Rattle.prediction.specs.Run.{run-miss, run-shut, run-deep, run-insid
 use Rattle.prediction.specs.Run.{run-call-stop, run-wrap, run-seq, run-seq-stop, run-left, run-right}
 use Rattle.prediction.specs.Run.{run-neither, run-skip, run-last, run-more, run-more-stop, sound, ahead}
 
--- a derivation that ends at j with the forest g, beside the parser's answer
+-- a derivation that ends at j with the forest g, beside the reader's answer
 pub data Maximal (t : Table) (s : ℕ → ℕ) (p : Plan) (j : ℕ) (g : Forest) : Outcome → Type 0 where
   most-same : {j′ : ℕ} {g′ : Forest} → j ≡ j′ → g ≡ g′ → Maximal t s p j g (done j′ g′)
   most-early : {j′ : ℕ} {g′ : Forest} → j < j′ → T (elem (s j) (follow-last t p)) → Maximal t s p j g (done j′ g′)
@@ -68,7 +68,7 @@ stops z (most-early h u) k = absurd z
 stops z (most-blame h u) k = k h u
 stops z most-deep k = most-deep
 
--- the parser has read something, or stopped, or its part may be empty
+-- the reader has read something, or stopped, or its part may be empty
 data Read (t : Table) (p : Plan) (i : ℕ) (x : Outcome) : Type 0 where
   read-stop : T (stopped x) → Read t p i x
   read-past : i < stop x → Read t p i x
@@ -124,7 +124,7 @@ module _ (t : Table) (s s′ : ℕ → ℕ) where
   more-stop a o z (look-nothing e n) h u = early′ z (omega arith) (last-many t a _ (rw (sym e) at u))
   more-stop a {m} o z (look-some y v) h u = absurd (many-apart t a o (s′ m) u v)
 
-  -- an end at the start of what the parser read
+  -- an end at the start of what the reader read
   here : (p : Plan) {i : ℕ} {g : Forest} {q : Plan} {x : Outcome} → Read t p i x → i ≤ stop x → (T (null t p) → ⊥) →
       T (elem (s′ i) (follow-last t q)) → Maximal t s′ q i g x
   here p (read-stop z) l n u = early′ z l u

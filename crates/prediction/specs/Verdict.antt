@@ -9,9 +9,10 @@ use native.Mathlib.Omega.{arith}
 use lib.Dec.{T, ltb, ltb→lt, nltb→le}
 use lib.ListN.{getD, length}
 use Rattle.grammar.specs.Blame.{Begins, Blame}
-use Rattle.grammar.specs.Depth.{opening, depth, Within, TooDeep}
+use Rattle.grammar.specs.Depth.{depth, Within, TooDeep}
 use Rattle.grammar.specs.Derivation.{kind-at, Derives, Derivation}
 use Rattle.grammar.specs.Forest.{Forest, end}
+use Rattle.grammar.specs.Nesting.{open-inside}
 use Rattle.grammar.specs.Rule.{nonterminal, Edition}
 use Rattle.grammar.specs.Sets.{elem}
 use Rattle.prediction.specs.Sets.{decide}
@@ -129,14 +130,6 @@ module _ {E : Edition} (c : Checked E) where
   unfolding Derivation as-plan
   accepts ks d j g e r = from-plans c (kind-at ks) (nonterminal (E .start))
       (subst (λ (z : ℕ). PlanDerives (table-of c .plan) (kind-at ks) (call (E .start)) 0 z end g) e (sound r))
-
-  open-inside : (ks : List ℕ) (q : ℕ) → T (opening (kind-at ks q)) → q < length ks
-  unfolding opening elem
-  open-inside ks q u = go (decide (ltb q (length ks)))
-    where
-      go : T (ltb q (length ks)) ⊎ T (not (ltb q (length ks))) → q < length ks
-      go (inl v) = ltb→lt q (length ks) v
-      go (inr v) = absurd (subst (λ (z : ℕ). T (opening z)) (zero-past ks q (nltb→le q (length ks) v)) u)
 
   pub says : (n : ℕ) (ks : List ℕ) (x : Outcome) → Reading ks n x → Says E n ks x
   unfolding stop typed marked depth reach

@@ -181,7 +181,7 @@ module _ (t : Table) (every : (p : Plan) → Generates t p) (s : ℕ → ℕ) wh
           PlanDerives (t .plan) s′ (many a) i j f g
       turn (plan-seq x y) = plan-more x y
 
-  -- the derivation that the parser found
+  -- the derivation that the reader found
   found : {p : Plan} {i j : ℕ} {f g : Forest} → PlanDerives (t .plan) s p i j f g → Viable t s p i f j
   found {j = j} {g = g} d =
       record { kinds = s; agree = λ q h. refl; till = j; far = omega arith; forest = g; derives = d }

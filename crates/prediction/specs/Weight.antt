@@ -6,7 +6,7 @@ use mathlib.Core.Bool.{Bool, true, _&&_}
 use native.Mathlib.Omega.{arith}
 use lib.Dec.{T, leb, leb→le}
 use Rattle.grammar.specs.Forest.{Forest, nodes, nodes-join}
-use Rattle.prediction.specs.Sets.{and-left, and-right}
+use Rattle.grammar.specs.Sets.{and-left, and-right}
 use Rattle.prediction.specs.Plan.{Plan, token, group, call, wrap, seq, alt, skip, many, PlanDerives, plan-token}
 use Rattle.prediction.specs.Plan.{plan-group, plan-call, plan-wrap, plan-seq, plan-left, plan-right, plan-skip}
 use Rattle.prediction.specs.Plan.{plan-none, plan-more}
