@@ -1,0 +1,34 @@
+-- A test on a set of kinds, one kind at a time.
+-- By the cases of each test. Assumes nothing.
+use Prim.Native.Nat.{ℕ}
+use mathlib.Core.Path.{_≡_, refl, subst}
+use mathlib.Core.Bool.{Bool, true, false, _||_}
+use mathlib.Core.List.{List, [], _∷_}
+use lib.Dec.{T, eqb, eqb→eq, eqb-refl}
+use Rattle.grammar.specs.Sets.{elem}
+
+-- it is the first kind of the set, and it is not
+pub found : (x k : ℕ) (ks : List ℕ) → x ≡ k → eqb x k ≡ elem x (k ∷ ks)
+unfolding elem
+found x k ks e = go (eqb x k) (subst (λ (y : ℕ). T (eqb x y)) e (eqb-refl x))
+  where
+    go : (b : Bool) → T b → b ≡ b || elem x ks
+    go true u = refl
+    go false u = absurd u
+
+pub past : (x k : ℕ) (ks : List ℕ) → (x ≡ k → ⊥) → elem x ks ≡ elem x (k ∷ ks)
+unfolding elem
+past x k ks n = go (eqb x k) (λ u. n (eqb→eq x k u))
+  where
+    go : (b : Bool) → (T b → ⊥) → elem x ks ≡ b || elem x ks
+    go true u = absurd (u tt)
+    go false u = refl
+
+-- the last kind of the set
+pub last : (x k : ℕ) → eqb x k ≡ elem x (k ∷ [])
+unfolding elem
+last x k = go (eqb x k)
+  where
+    go : (b : Bool) → b ≡ b || false
+    go true = refl
+    go false = refl
