@@ -32,7 +32,12 @@ impl Grammar {
 
     /// The rules 1 to 99.
     pub fn published() -> Self {
-        let words = words(TEXT);
+        Grammar::read(TEXT)
+    }
+
+    /// The rules that a text writes as the papers do.
+    pub fn read(text: &str) -> Self {
+        let words = words(text);
         let is_alphabetic = |word: &&String| word.starts_with('"') && word[1..2].chars().all(char::is_alphabetic);
         let keywords = words.iter().filter(is_alphabetic).map(|word| word.trim_matches('"').to_string()).collect();
         let kinds = Kinds::new(keywords);
