@@ -1,7 +1,7 @@
 -- The first byte of a text that is not at its end: what a test says of it, it says of the byte that the definitions look at.
 -- Inside a text it does not matter what stands past its end. Assumes nothing.
 use mathlib.Core.Path.{_≡_, sym, ap, _∙_}
-use mathlib.Core.List.{List, [], _∷_}
+use mathlib.Core.List.{List}
 use Prim.Native.Nat.{ℕ}
 use native.Mathlib.Omega.{arith}
 use lib.ListN.{length, getD}

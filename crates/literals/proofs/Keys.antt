@@ -1,9 +1,9 @@
 -- A class of bytes at the single numbers that an arm of a `match` names, its keys, and on an interval apart from them.
 -- What a test computes at each key, or at each number of the interval that is no key, holds of every byte there. Assumes nothing.
 use mathlib.Core.Path.{_≡_, subst⁻¹}
-use mathlib.Core.Bool.{Bool, true, false, _&&_, _||_}
+use mathlib.Core.Bool.{Bool, true, _&&_, _||_}
 use mathlib.Core.List.{List, [], _∷_}
-use mathlib.Core.Logic.{_⊎_, inl, inr}
+use mathlib.Core.Logic.{inl, inr}
 use Prim.Native.Nat.{ℕ, _+_, _≤_, _<_}
 use lib.Dec.{T}
 use types.Run.{OneOf, hit}

@@ -1,14 +1,14 @@
 -- A string passes a run of bytes that it holds as they are: each is a character of one byte.
 -- By induction on the bytes passed; an ordinary byte is neither the quote nor the backslash, and is plain. Assumes nothing.
 use mathlib.Core.Path.{_≡_, refl, sym, ap, subst, _∙_}
-use mathlib.Core.Bool.{Bool, true, false, not, _&&_, cond}
+use mathlib.Core.Bool.{Bool, true, false, not, _&&_, cond, false≢true}
 use mathlib.Core.List.{List, [], _∷_}
 use Prim.Native.Char.{code}
-use Prim.Native.Nat.{ℕ, zero, suc, _+_, _-_, _≤_, _<_}
+use Prim.Native.Nat.{ℕ, zero, suc, _+_, _≤_, _<_}
 use native.Mathlib.Nat.{add-zero}
 use native.Mathlib.Omega.{arith}
 use lib.Dec.{eqb}
-use lib.ListN.{length, take, drop}
+use lib.ListN.{drop}
 use lib.Seq.{getD-drop}
 use Rattle.text.specs.Bytes.{at, run}
 use Rattle.text.specs.Literals.{plain, escape, no-character, piece}
@@ -18,16 +18,13 @@ use Rattle.text.proofs.Rests.{rest}
 use Rattle.literals.specs.Ordinary.{ordinary}
 use Rattle.literals.proofs.Pieces.{Reading, reading-more}
 
-never : {A : Type 0} → false ≡ true → A
-never e = absurd (subst (λ (t : Bool). elim t as (λ x. Type 0) [ true ↦ ⊥ | false ↦ Unit {0} ]) e tt)
-
 -- where a byte is no backslash, no quote, and plain, the choice of a piece comes to a character of one byte
 chosen : (backslash quote plain : Bool) (e n : Piece) → (not backslash && (not quote && plain)) ≡ true →
     cond quote Close (cond backslash e (cond plain (Character 1) n)) ≡ Character 1
-chosen true y z e n h = never h
-chosen false true z e n h = never h
+chosen true y z e n h = absurd (false≢true h)
+chosen false true z e n h = absurd (false≢true h)
 chosen false false true e n h = refl
-chosen false false false e n h = never h
+chosen false false false e n h = absurd (false≢true h)
 
 ordinary-piece : (wide : Bool) (bs : List ℕ) → ordinary (at bs 0) ≡ true → piece wide (code "\"") bs ≡ Character 1
 unfolding piece ordinary

@@ -2,14 +2,13 @@
 -- The part that the code lends to its end is the rest from place n on; there are more steps left than bytes. Assumes nothing.
 use mathlib.Core.Path.{_≡_, refl, sym, ap, subst, _∙_}
 use mathlib.Core.Bool.{Bool}
-use mathlib.Core.List.{List, [], _∷_}
+use mathlib.Core.List.{List}
 use Prim.Native.Char.{code}
 use Prim.Native.Nat.{ℕ, zero, suc, _+_, _-_, _≤_, _<_}
 use native.Mathlib.Omega.{arith}
 use lib.ListN.{length, take, drop}
 use Rattle.text.specs.Literals.{piece, character-kind, string-kind, after-character, closing, one-character, character}
 use Rattle.text.specs.Literals.{string-piece, string-in, string}
-use Rattle.text.specs.declared.Lexeme.{Lexeme}
 use Rattle.text.specs.declared.Lexeme.the-variants.{Token}
 use Rattle.text.specs.declared.Piece.{Piece}
 use Rattle.text.specs.declared.Piece.the-variants.{Character}

@@ -9,7 +9,7 @@ use native.Mathlib.Omega.{arith}
 use borrow.Author.Tests.{ne-eqb}
 use lib.Dec.{eqb, ltb}
 use lib.ListN.{length, take, drop, length-take, length-drop}
-use Rattle.text.specs.Bytes.{at, run, octal, hexadecimal, line-end, ended}
+use Rattle.text.specs.Bytes.{at, octal, hexadecimal, line-end, ended}
 use Rattle.text.specs.Literals.{plain, simple, digits, zeros, numbered, above-377, no-character}
 use Rattle.text.specs.Literals.{octal-escape, hexadecimal-digits, hexadecimal-escape, escape, piece}
 use Rattle.text.proofs.Runs.{run-within}

@@ -1,12 +1,14 @@
 -- `literals::character` meets its contract: a literal that has no character is open or bad, and one that has is closed next.
 -- The arms of the code are the clauses of the definition; a character stands in the text, so that the next place does. Assumes nothing.
 use mathlib.Core.Path.{_∙_}
-use native.Mathlib.Omega.{arith}
 use Prim.Native.Char.{code}
+use Prim.Native.Nat.{_+_, _≤_}
+use native.Mathlib.Omega.{arith}
+use borrow.Author.Needs.{needs}
+use lib.ListN.{length}
 use Rattle.text.specs.Literals.{one-character}
 use Rattle.literals.proofs.Sizes.{character-size, zero-size}
 use Rattle.literals.proofs.Pieces.{stands, character-by}
-use borrow.Author.Needs.{needs}
 use Rattle.literals.proofs.character.Statement.{statement}
 use Rattle.literals.proofs.character.Tie as tie
 
@@ -31,32 +33,40 @@ enum-told-2 c = search needs
 enum-known-next : tie.Need-enum-known-next
 enum-known-next c = search needs
 
-add-closing : tie.Need-add-closing
-add-closing c =
+-- after a character the text goes on, or ends
+character-fits : (c : tie.After-known-told) →
+    let args = c .before .before .before .before .before .before .args in
+    args .n + c .before .next .given .0 .0 ≤ length (args .bs .now)
+character-fits c =
     let at = c .before .before .before in
     let args = at .before .before .before .args in
-    omega (arith, character-size (stands (args .wide) (code "'") (args .n) (args .bs .now) (at .piece .ensures) (c .before .next .given .1) (omega arith)))
+    let size = stands (args .wide) (code "'") (args .n) (args .bs .now) (at .piece .ensures) (c .before .next .given .1) (omega arith) in
+    omega (arith, character-size size)
+
+add-closing : tie.Need-add-closing
+add-closing c = omega (arith, character-fits c)
 
 closing-requires : tie.Need-closing-requires
-closing-requires c κs =
-    let at = c .before .before .before in
-    let args = at .before .before .before .args in
-    omega (arith, character-size (stands (args .wide) (code "'") (args .n) (args .bs .now) (at .piece .ensures) (c .before .next .given .1) (omega arith)))
+closing-requires c κs = character-fits c
 
 enum-known-next-2 : tie.Need-enum-known-next-2
 enum-known-next-2 c = search needs
 
-add-closing-2 : tie.Need-add-closing-2
-add-closing-2 c =
+-- and after character zero
+zero-fits : (c : tie.After-known-told2) →
+    let args = c .before .before .before .before .before .before .args in
+    args .n + c .before .next2 .given .0 .0 ≤ length (args .bs .now)
+zero-fits c =
     let at = c .before .before .before in
     let args = at .before .before .before .args in
-    omega (arith, zero-size (stands (args .wide) (code "'") (args .n) (args .bs .now) (at .piece .ensures) (c .before .next2 .given .1) (omega arith)))
+    let size = stands (args .wide) (code "'") (args .n) (args .bs .now) (at .piece .ensures) (c .before .next2 .given .1) (omega arith) in
+    omega (arith, zero-size size)
+
+add-closing-2 : tie.Need-add-closing-2
+add-closing-2 c = omega (arith, zero-fits c)
 
 closing-requires-2 : tie.Need-closing-requires-2
-closing-requires-2 c κs =
-    let at = c .before .before .before in
-    let args = at .before .before .before .args in
-    omega (arith, zero-size (stands (args .wide) (code "'") (args .n) (args .bs .now) (at .piece .ensures) (c .before .next2 .given .1) (omega arith)))
+closing-requires-2 c κs = zero-fits c
 
 enum-told-3 : tie.Need-enum-told-3
 enum-told-3 c = search needs

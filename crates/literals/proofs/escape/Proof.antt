@@ -1,14 +1,15 @@
 -- `literals::escape` meets its contract: the letter after the backslash decides in the order of the definition.
 -- Each test is that of the definition, on the first byte; at the end of the text stands 256, which passes none. Assumes nothing.
 use mathlib.Core.Path.{_≡_, refl, sym, _∙_, ap}
-use mathlib.Core.Bool.{Bool}
+use mathlib.Core.Bool.{Bool, cond}
 use mathlib.Core.List.{List, [], _∷_}
 use Prim.Native.Nat.{ℕ}
 use native.Mathlib.Omega.{arith}
 use borrow.Author.Tests.{lt-ltb, le-ltb}
-use lib.ListN.{length}
-use Rattle.text.specs.Bytes.{octal}
-use Rattle.text.specs.Literals.{simple, hexadecimal-digits, hexadecimal-escape, escape}
+use lib.Dec.{ltb}
+use lib.ListN.{length, drop}
+use Rattle.text.specs.Bytes.{at, octal}
+use Rattle.text.specs.Literals.{simple, no-character, hexadecimal-digits, hexadecimal-escape, escape}
 use Rattle.text.specs.declared.Piece.the-variants.{Unclosed}
 use Rattle.text.proofs.Rests.{rest}
 use Rattle.literals.proofs.Front.{seen}
@@ -72,36 +73,34 @@ hexadecimal-escape-requires c κs = search needs
 no-character-requires : tie.Need-no-character-requires
 no-character-requires c κs = search needs
 
-returns-4 : tie.Need-returns-4
+-- no letter of two bytes and no octal digit stands first: how many hex digits there may be decides
+other : (c : tie.After-hexadecimal-digits) →
+    let args = c .before .before .before .before .before .before .before .before .args in
+    let most = c .hexadecimal-digits .result in
+    escape (args .wide) (args .bs .now) ≡ cond (ltb 0 most) (hexadecimal-escape most (drop 1 (args .bs .now))) (no-character (at (args .bs .now) 0))
 unfolding escape
-returns-4 c =
-    let chosen = c .before .before in
-    let octals = chosen .before .before .before in
+other c =
+    let octals = c .before .before in
     let simples = octals .before .before in
     let start = simples .before .before in
     let args = start .before .before .args in
     rw (
       seen (args .bs .now) (start .if1 .left) simple (simples .is-simple .ensures) (octals .before .if2 .left),
-      seen (args .bs .now) (start .if1 .left) octal (octals .is-octal .ensures) (chosen .before .before .if3 .left),
-      seen (args .bs .now) (start .if1 .left) (hexadecimal-digits (args .wide)) (chosen .before .hexadecimal-digits .ensures) refl,
-      lt-ltb 0 (chosen .before .hexadecimal-digits .result) (chosen .if4 .taken),
+      seen (args .bs .now) (start .if1 .left) octal (octals .is-octal .ensures) (c .before .if3 .left),
+      seen (args .bs .now) (start .if1 .left) (hexadecimal-digits (args .wide)) (c .hexadecimal-digits .ensures) refl,
     )
-    (c .hexadecimal-escape .ensures ∙ ap (hexadecimal-escape (chosen .before .hexadecimal-digits .result)) (rest (args .bs .now) 1))
+
+returns-4 : tie.Need-returns-4
+returns-4 c =
+    let at = c .before .before in
+    let most = at .before .hexadecimal-digits .result in
+    let bs = at .before .before .before .before .before .before .before .before .before .args .bs .now in
+    c .hexadecimal-escape .ensures ∙ ap (hexadecimal-escape most) (rest bs 1) ∙ sym (other (at .before) ∙ rw (lt-ltb 0 most (at .if4 .taken)))
 
 returns-5 : tie.Need-returns-5
-unfolding escape
 returns-5 c =
-    let chosen = c .before in
-    let octals = chosen .before .before .before in
-    let simples = octals .before .before in
-    let start = simples .before .before in
-    let args = start .before .before .args in
-    rw (
-      seen (args .bs .now) (start .if1 .left) simple (simples .is-simple .ensures) (octals .before .if2 .left),
-      seen (args .bs .now) (start .if1 .left) octal (octals .is-octal .ensures) (chosen .before .before .if3 .left),
-      seen (args .bs .now) (start .if1 .left) (hexadecimal-digits (args .wide)) (chosen .before .hexadecimal-digits .ensures) refl,
-      le-ltb 0 (chosen .before .hexadecimal-digits .result) (chosen .if4 .left),
-    ) (c .no-character .ensures)
+    let at = c .before in
+    c .no-character .ensures ∙ sym (other (at .before) ∙ rw (le-ltb 0 (at .before .hexadecimal-digits .result) (at .if4 .left)))
 
 pub escape-spec : {M : Type 1} → statement M
 escape-spec =

@@ -2,7 +2,7 @@
 -- By the arms of the code. Assumes nothing.
 use mathlib.Core.Bool.{false}
 use mathlib.Core.List.{[], _∷_}
-use mathlib.Core.Logic.{_⊎_, inl, inr}
+use mathlib.Core.Logic.{inl, inr}
 use borrow.Author.Needs.{needs}
 use borrow.Author.Tests.{ne-eqb}
 use Rattle.literals.specs.Ordinary.{ordinary}

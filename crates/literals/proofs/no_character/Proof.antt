@@ -2,10 +2,10 @@
 -- Each of the three numbers is told from the byte, or found to be it. Assumes nothing.
 use mathlib.Core.Path.{_≡_, ap, _∙_}
 use mathlib.Core.List.{List, [], _∷_}
-use mathlib.Core.Logic.{_⊎_, inl, inr}
+use mathlib.Core.Logic.{inl, inr}
 use Prim.Native.Nat.{ℕ}
 use borrow.Author.Needs.{needs}
-use borrow.Author.Tests.{eq-eqb, ne-eqb}
+use borrow.Author.Tests.{ne-eqb}
 use types.Run.{OneOf}
 use Rattle.text.specs.Bytes.{line-end, ended}
 use Rattle.text.specs.Literals.{no-character}

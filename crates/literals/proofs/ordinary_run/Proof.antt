@@ -1,7 +1,6 @@
 -- `literals::ordinary_run` meets its contract. The loop's invariant: the bytes passed are ordinary, so what is left to count is the rest's run.
 -- An ordinary byte moves the invariant on; any other, or the end of the text, ends the run. Assumes nothing.
 use Prim.Native.Nat.{_-_}
-use native.Mathlib.Omega.{arith}
 use mathlib.Core.Path.{sym, _∙_}
 use borrow.Author.Needs.{needs}
 use borrow.Author.Tests.{not-true, not-false}

@@ -1,17 +1,16 @@
 -- `literals::piece` meets its contract: the first byte decides in the order of the definition.
 -- Each test is that of the definition; at the end of the text stands 256, which is no quote. Assumes nothing.
-use mathlib.Core.Path.{_≡_, refl, sym, _∙_, ap}
+use mathlib.Core.Path.{_≡_, sym, _∙_, ap}
 use mathlib.Core.Bool.{Bool}
 use mathlib.Core.List.{List, [], _∷_}
 use Prim.Native.Nat.{ℕ, _<_}
 use native.Mathlib.Omega.{arith}
 use borrow.Author.Tests.{eq-eqb, ne-eqb}
-use lib.Dec.{eqb}
 use lib.ListN.{length}
-use Rattle.text.specs.Literals.{plain, no-character, escape, piece}
+use Rattle.text.specs.Literals.{no-character, escape, piece}
 use Rattle.text.specs.declared.Piece.the-variants.{Unclosed}
 use Rattle.text.proofs.Rests.{rest}
-use Rattle.literals.proofs.Front.{front, seen}
+use Rattle.literals.proofs.Front.{front}
 use borrow.Author.Needs.{needs}
 use Rattle.literals.proofs.piece.Statement.{statement}
 use Rattle.literals.proofs.piece.Tie as tie

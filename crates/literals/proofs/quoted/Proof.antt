@@ -1,7 +1,7 @@
 -- `literals::quoted` meets its contract: the quote decides between a character and a string, and where there is none stands no literal.
 -- A quote is a byte, so the place after it is in the text or at its end. Assumes nothing.
-use mathlib.Core.Path.{_≡_, sym, _∙_}
-use Prim.Native.Nat.{ℕ, _<_}
+use mathlib.Core.Path.{sym, _∙_}
+use Prim.Native.Nat.{_<_}
 use native.Mathlib.Omega.{arith}
 use borrow.Author.Tests.{ne-eqb}
 use lib.ListN.{length}

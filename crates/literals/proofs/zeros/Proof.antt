@@ -1,7 +1,6 @@
 -- `literals::zeros` meets its contract. The loop's invariant: the digits passed are 0, so all are 0 where those of the rest are.
 -- A digit 0 moves the invariant on; any other, or the end, decides. Assumes nothing.
 use Prim.Native.Nat.{_-_}
-use native.Mathlib.Omega.{arith}
 use borrow.Author.Needs.{needs}
 use lib.ListN.{length}
 use Rattle.literals.proofs.AllZero.{Passed, passed-none, passed-more, passed-stop, passed-all}
