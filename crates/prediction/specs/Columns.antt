@@ -47,7 +47,7 @@ caps ps (suc k) = weight-in (by-number (weight (caps ps k)) ps)
 unfoldable pub implies : Bool → Bool → Bool
 implies a b = not a || b
 
--- a plan keeps its claims: t is a round behind t′, w and w′ are weights so
+-- a plan keeps its claims: t is a round after t′, and so are the weights w after w′
 unfoldable pub settled : (t′ t : Table) (produced founded : ℕ → Bool) (w′ w : ℕ → ℕ) → Plan → Bool
 unfolding null first follow-last typed subset marked produces left-within weight weighed implies
 settled t′ t produced founded w′ w p =

@@ -3,7 +3,6 @@
 use Prim.Native.String.{String}
 use mathlib.Core.List.{List, [], _∷_, _++_}
 use Rattle.kinds.specs.Kinds.{kind-of}
-use Rattle.grammar.specs.Depth.{opening}
 use Rattle.grammar.specs.Idl.{published, idl}
 use Rattle.grammar.specs.Notation.{_+, _::=_, names}
 use Rattle.prediction.specs.Check.{Prediction}

@@ -58,8 +58,8 @@ or-not false b u v = absurd u
 abbrev pub Result : Table → (ℕ → ℕ) → ℕ → Plan → ℕ → Forest → Type 0
 Result t s d p i f = (x : Outcome) × Runs t s d p i f x
 
-pub ne : (m n : ℕ) → T (not (eqb m n)) → m ≡ n → ⊥
-ne m n u e = T-not (eqb m n) u (subst (λ (z : ℕ). T (eqb m z)) e (eqb-refl m))
+pub not-equal : (m n : ℕ) → T (not (eqb m n)) → m ≡ n → ⊥
+not-equal m n u e = T-not (eqb m n) u (subst (λ (z : ℕ). T (eqb m z)) e (eqb-refl m))
 
 -- the answer of a compound from that of its part
 unfoldable pub after : {t : Table} {s : ℕ → ℕ} {d d′ i i′ : ℕ} {p q : Plan} {f f′ : Forest} → Result t s d p i f →
@@ -90,13 +90,13 @@ module _ (t : Table) (o : Typed t) (s : ℕ → ℕ) (n : ℕ) (z : (q : ℕ) �
         where
           go : T (eqb (s i) c) ⊎ T (not (eqb (s i) c)) → Result t s d (token c) i f
           go (inl y) = (done (suc i) (leaf f c), run-token (eqb→eq (s i) c y))
-          go (inr y) = (blame i, run-miss (ne (s i) c y))
+          go (inr y) = (blame i, run-miss (not-equal (s i) c y))
       body (group a b c) r w u v d i f h h′ = go d (decide (eqb (s i) a))
         where
           shut : (d m : ℕ) (g : Forest) → s i ≡ a → Runs t s d b (suc i) (leaf f a) (done m g) →
               T (eqb (s m) c) ⊎ T (not (eqb (s m) c)) → Result t s (suc d) (group a b c) i f
           shut d m g e x (inl y) = (done (suc m) (leaf g c), run-group e x (eqb→eq (s m) c y))
-          shut d m g e x (inr y) = (blame m, run-unclosed e x (ne (s m) c y))
+          shut d m g e x (inr y) = (blame m, run-unclosed e x (not-equal (s m) c y))
 
           go : (d : ℕ) → T (eqb (s i) a) ⊎ T (not (eqb (s i) a)) → Result t s d (group a b c) i f
           go zero (inl y) = (deep i, run-deep (eqb→eq (s i) a y))
@@ -105,8 +105,8 @@ module _ (t : Table) (o : Typed t) (s : ℕ → ℕ) (n : ℕ) (z : (q : ℕ) �
               let l = reads-on t o s n z i a e (group-positive t a c b u .0) in
               after (ih d (suc i) b (leaf f a) (group-typed t a c b u) (omega arith) (omega arith))
               (λ m g x. shut d m g e x (decide (eqb (s m) c))) (λ x q y. run-inside e y q)
-          go zero (inr y) = (blame i, run-shut (ne (s i) a y))
-          go (suc d) (inr y) = (blame i, run-shut (ne (s i) a y))
+          go zero (inr y) = (blame i, run-shut (not-equal (s i) a y))
+          go (suc d) (inr y) = (blame i, run-shut (not-equal (s i) a y))
       body (call m) r w u v d i f h h′ =
           after (w m v d i end h h′) (λ j g x. (done j (join f g), run-call x refl)) (λ x q y. run-call-stop y q)
       body (wrap m) r w u v d i f h h′ = (done i (node end m f), run-wrap)
@@ -116,20 +116,20 @@ module _ (t : Table) (o : Typed t) (s : ℕ → ℕ) (n : ℕ) (z : (q : ℕ) �
           (λ m g x. rest m g x (decide (ltb i m)) (λ y. body b r w (seq-right-typed t a b u) y d m g))
           (λ x q y. run-seq-stop y q)
         where
-          with-a : (m : ℕ) (g : Forest) → Runs t s d a i f (done m g) → Result t s d b m g →
+          with-first : (m : ℕ) (g : Forest) → Runs t s d a i f (done m g) → Result t s d b m g →
               Result t s d (seq a b) i f
-          with-a m g x (y, q) = (y, run-seq x q)
+          with-first m g x (y, q) = (y, run-seq x q)
 
           rest : (m : ℕ) (g : Forest) → Runs t s d a i f (done m g) → T (ltb i m) ⊎ T (not (ltb i m)) →
               (T (left-within t r b) → m ≤ n → n < m + suc k → Result t s d b m g) → Result t s d (seq a b) i f
           rest m g x (inl y) rec =
               let l = ltb→lt i m y in
-              with-a m g x (ih d m b g (seq-right-typed t a b u)
+              with-first m g x (ih d m b g (seq-right-typed t a b u)
               (inside t o s n z (seq-left-typed t a b u) h (sound x))
               (omega arith))
           rest m g x (inr y) rec =
               let l = nltb→le i m y in let l′ = forward t s (sound x) in
-              with-a m g x (rec (or-not (null t a) (left-within t r b) (unread l (look t s o (sound x)))
+              with-first m g x (rec (or-not (null t a) (left-within t r b) (unread l (look t s o (sound x)))
               (and-right (left-within t r a) (not (null t a) || left-within t r b) v)) (omega arith) (omega arith))
       body (alt a b) r w u v d i f h h′ =
           pick (decide (goes t a b (s i))) (decide (turns t b (s i)))
@@ -137,30 +137,30 @@ module _ (t : Table) (o : Typed t) (s : ℕ → ℕ) (n : ℕ) (z : (q : ℕ) �
           (λ q. body b r w (alt-right-typed t a b u) (and-right (left-within t r a) (left-within t r b) v) d i f h
           h′)
         where
-          to-l : T (goes t a b (s i)) → Result t s d a i f → Result t s d (alt a b) i f
-          to-l y (x, q) = (x, run-left y q)
+          to-first : T (goes t a b (s i)) → Result t s d a i f → Result t s d (alt a b) i f
+          to-first y (x, q) = (x, run-left y q)
 
-          to-r : T (not (goes t a b (s i))) → T (turns t b (s i)) → Result t s d b i f → Result t s d (alt a b) i f
-          to-r y y′ (x, q) = (x, run-right y y′ q)
+          to-second : T (not (goes t a b (s i))) → T (turns t b (s i)) → Result t s d b i f → Result t s d (alt a b) i f
+          to-second y y′ (x, q) = (x, run-right y y′ q)
 
           pick : T (goes t a b (s i)) ⊎ T (not (goes t a b (s i))) → T (turns t b (s i)) ⊎ T (not (turns t b (s i))) →
               (Unit {0} → Result t s d a i f) → (Unit {0} → Result t s d b i f) → Result t s d (alt a b) i f
-          pick (inl y) y′ x x′ = to-l y (x tt)
-          pick (inr y) (inl y′) x x′ = to-r y y′ (x′ tt)
+          pick (inl y) y′ x x′ = to-first y (x tt)
+          pick (inr y) (inl y′) x x′ = to-second y y′ (x′ tt)
           pick (inr y) (inr y′) x x′ = (blame i, run-neither y y′)
       body skip r w u v d i f h h′ = (done i f, run-skip)
       body (many a) r w u v d i f h h′ =
           go (decide (elem (s i) (first t a))) (λ q. body a r w (many-typed t a u) v d i f h h′)
         where
-          with-a : (m : ℕ) (g : Forest) → T (elem (s i) (first t a)) → Runs t s d a i f (done m g) →
+          with-first : (m : ℕ) (g : Forest) → T (elem (s i) (first t a)) → Runs t s d a i f (done m g) →
               Result t s d (many a) m g → Result t s d (many a) i f
-          with-a m g y x (e, q) = (e, run-more y x q)
+          with-first m g y x (e, q) = (e, run-more y x q)
 
           go : T (elem (s i) (first t a)) ⊎ T (not (elem (s i) (first t a))) → (Unit {0} → Result t s d a i f) →
               Result t s d (many a) i f
           go (inl y) x = after (x tt)
               (λ m g q. let l = full a u (look t s o (sound q)) in
-              with-a m g y q (ih d m (many a) g u (inside t o s n z (many-typed t a u) h (sound q)) (omega arith)))
+              with-first m g y q (ih d m (many a) g u (inside t o s n z (many-typed t a u) h (sound q)) (omega arith)))
               (λ e q x. run-more-stop y x q)
           go (inr y) x = (done i f, run-last y)
 

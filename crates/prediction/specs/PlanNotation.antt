@@ -3,10 +3,8 @@
 use Prim.Native.Nat.{ℕ, zero, suc}
 use Prim.Native.String.{String}
 use mathlib.Core.List.{List}
-use Rattle.grammar.specs.Depth.{opening}
 use Rattle.grammar.specs.Notation.{_+, _::=_, token-names, place, places}
 use Rattle.prediction.specs.Plan.{Plan, token, call, wrap, seq, alt, skip, many}
-use Rattle.prediction.specs.Equivalence.{opens}
 use Rattle.prediction.specs.Planning.{grouped, Sketch}
 
 infix 60 `_

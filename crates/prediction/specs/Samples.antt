@@ -8,10 +8,8 @@ use mathlib.Core.List.{List, [], _∷_, _++_}
 use lib.Dec.{eqb, ltb}
 use lib.ListN.{length}
 use Rattle.kinds.specs.Kinds.{bytes, keyword, mark}
-use Rattle.grammar.specs.Depth.{depth}
 use Rattle.grammar.specs.Idl.{idl}
 use Rattle.grammar.specs.Record.{TreeRecord, tree-record, records}
-use Rattle.prediction.specs.Plan.{token}
 use Rattle.prediction.specs.Run.{Outcome, done, blame, deep}
 use Rattle.prediction.specs.Check.{table}
 use Rattle.prediction.specs.IdlPlans.{idl-prediction}

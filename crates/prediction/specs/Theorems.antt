@@ -20,7 +20,7 @@ use Rattle.prediction.specs.Compare.{one-forest}
 use Rattle.prediction.specs.Run.{Outcome, done, blame, deep}
 use Rattle.prediction.specs.Inside.{zero-past}
 use Rattle.prediction.specs.RulesAsPlans.{as-plan}
-use Rattle.prediction.specs.Parser.{Result, full, total}
+use Rattle.prediction.specs.Parser.{Result, total}
 use Rattle.prediction.specs.Check.{rounds, Checked, table-of, all-typed, all-founded}
 use Rattle.prediction.specs.SamePlans.{to-plans}
 use Rattle.prediction.specs.Verdict.{Says, says-derived, says-more, says-blamed, says-deep, says}

@@ -15,7 +15,6 @@ use Rattle.prediction.specs.Run.{run-inside, run-group, run-unclosed, ru
 use Rattle.prediction.specs.Run.{run-seq, run-seq-stop, run-left, run-right, run-neither, run-skip, run-last}
 use Rattle.prediction.specs.Run.{run-more, run-more-stop}
 use Rattle.prediction.specs.Equivalence.{same-plan, same-plan-equal}
-use Rattle.prediction.specs.Parser.{frames}
 use Rattle.prediction.specs.Columns.{plan-at, round}
 
 -- each call of the plan is of a frame in the set

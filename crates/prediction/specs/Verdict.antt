@@ -23,11 +23,8 @@ use Rattle.prediction.specs.Maximal.{Maximal, most-same, most-early, mos
 use Rattle.prediction.specs.Viable.{carry, Viable, reach, stays-viable}
 use Rattle.prediction.specs.RunDepth.{marked, StopDepth, depth-done, depth-blame, depth-deep, stop-depth}
 use Rattle.prediction.specs.Inside.{zero-past, inside-run}
-use Rattle.prediction.specs.Equivalence.{opens}
 use Rattle.prediction.specs.RulesAsPlans.{as-plan}
-use Rattle.prediction.specs.Parser.{full}
 use Rattle.prediction.specs.Check.{Checked, table-of, all-typed, all-marked, all-generate, ends-at-zero}
-use Rattle.prediction.specs.Planning.{starts}
 use Rattle.prediction.specs.SamePlans.{to-plans, from-plans}
 
 -- the first n of the kinds s, as a list
