@@ -1,9 +1,8 @@
 -- What a good call is: paper 01, "Text: at most 1,048,576 bytes. Depth setting: 1 to 64" and "A good call is one that reply 1 does not answer".
 -- The ceilings are arguments here: the code names them once, and contracts read them there. Assumes nothing: these are definitions.
-use mathlib.Core.Bool.{Bool, true, false, _&&_, cond}
+use mathlib.Core.Bool.{Bool, _&&_, cond}
 use Prim.Native.Nat.{ℕ}
 use lib.Dec.{leb}
-use Rattle.limits.specs.declared.Limits.{Limits}
 use Rattle.limits.specs.declared.Bounded.{Bounded}
 use Rattle.limits.specs.declared.Bounded.the-variants.{Good, Beyond}
 

@@ -1,6 +1,6 @@
 -- The table of paper 01, "What the reader says": a definition for each row, in the table's order and with its words.
 -- A reply is a number, a place in bytes, a token count and a record count. Assumes nothing: these are definitions.
-use mathlib.Core.Bool.{Bool, true, false, cond}
+use mathlib.Core.Bool.{cond}
 use Prim.Native.Nat.{ℕ}
 use lib.Dec.{eqb}
 use Rattle.replies.specs.declared.Reply.{Reply}

@@ -1,6 +1,6 @@
 -- A token's spelling: paper 01, "The bytes of one token are handed back as that part of the caller's text.
 -- If the record asked for isn't in the table, or its span leaves the text, the part is empty." Assumes nothing: these are definitions.
-use mathlib.Core.Bool.{Bool, true, false, _&&_, cond}
+use mathlib.Core.Bool.{Bool, _&&_, cond}
 use mathlib.Core.List.{List}
 use Prim.Native.Nat.{ℕ, _+_, _*_}
 use lib.Dec.{leb, ltb}

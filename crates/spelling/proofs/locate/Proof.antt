@@ -7,11 +7,17 @@ use Rattle.spelling.proofs.locate.Tie as tie
 
 returns : tie.Need-returns
 returns c =
-    simp (lt-ltb _ _ (c .before .before .before .before .before .if1 .taken), le-leb _ _ (rw (c .before .before .wide .ensures .0, c .before .wide2 .ensures .0) at (c .if2 .taken)))
+    let second = c .before in
+    let first = second .before in
+    let fits = rw (first .wide .ensures .0, second .wide2 .ensures .0) at (c .if2 .taken) in
+    simp (lt-ltb _ _ (first .before .before .before .if1 .taken), le-leb _ _ fits)
 
 returns-2 : tie.Need-returns-2
 returns-2 c =
-    simp (lt-ltb _ _ (c .before .before .before .before .before .if1 .taken), lt-leb _ _ (rw (c .before .before .wide .ensures .0, c .before .wide2 .ensures .0) at (c .if2 .left)))
+    let second = c .before in
+    let first = second .before in
+    let fits = rw (first .wide .ensures .0, second .wide2 .ensures .0) at (c .if2 .left) in
+    simp (lt-ltb _ _ (first .before .before .before .if1 .taken), lt-leb _ _ fits)
 
 returns-3 : tie.Need-returns-3
 returns-3 c = simp (le-ltb _ _ (c .if1 .left))

@@ -9,8 +9,10 @@ use Rattle.spelling.proofs.spelling.Tie as tie
 
 part-result-end : tie.Need-part-result-end
 part-result-end c =
-    let h = located-within (length (c .before .before .before .before .before .args .text .now)) (c .before .before .before .before .before .args .tokens .now) (c .before .before .before .before .before .args .i) in
-    rw (c .before .wide .ensures .0, c .wide2 .ensures .0, c .before .before .locate .ensures) h
+    let located = c .before .before in
+    let start = located .before .before .before in
+    let h = located-within (length (start .args .text .now)) (start .args .tokens .now) (start .args .i) in
+    rw (c .before .wide .ensures .0, c .wide2 .ensures .0, located .locate .ensures) h
 
 returns : tie.Need-returns
 returns c = rw (add-sub-cancel-left, c .before .before .wide .ensures .0, c .before .wide2 .ensures .0, c .before .before .before .locate .ensures)

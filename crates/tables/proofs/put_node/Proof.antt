@@ -2,7 +2,6 @@
 -- The four places in a row are those of `put`. Assumes nothing.
 use Prim.Native.Nat.{_+_, _*_, suc}
 use mathlib.Core.Path.{_≡_}
-use mathlib.Core.List.{[], _∷_}
 use native.Mathlib.Omega.{arith}
 use borrow.Author.Needs.{needs}
 use lib.ListN.{length-set}

@@ -1,0 +1,106 @@
+-- The lexeme at the front by its first byte, and its second where that one leaves a choice.
+-- Each rewrites the definition's tests by what is known of the two bytes. Assumes nothing.
+use mathlib.Core.Bool.{true, false}
+use mathlib.Core.List.{List}
+use mathlib.Core.Logic.{_⊎_, inl, inr}
+use mathlib.Core.Path.{_≡_}
+use Prim.Native.Char.{code}
+use Prim.Native.Nat.{ℕ}
+use borrow.Author.Tests.{ne-eqb}
+use Rattle.text.specs.Blanks.{line-comment, block-comment}
+use Rattle.text.specs.Bytes.{at, run, space, letter, digit}
+use Rattle.text.specs.Lexemes.{lexeme, mark}
+use Rattle.text.specs.Literals.{quote, literal, wide-literal}
+use Rattle.text.specs.Numbers.{number}
+use Rattle.text.specs.Words.{word, escaped-word}
+use Rattle.text.specs.declared.Lexeme.the-variants.{Blank}
+use Rattle.lexemes.specs.Fronts.{slash, wide, underscore}
+
+-- a byte that a class decides: a letter, a digit, or neither
+pub record Plain (b : ℕ) : Type 0 where
+  pub no-space : space b ≡ false
+  pub no-slash : b ≡ slash → ⊥
+  pub no-quote : (b ≡ code "\"") ⊎ (b ≡ code "'") → ⊥
+  pub no-wide : b ≡ wide → ⊥
+  pub no-underscore : b ≡ underscore → ⊥
+  pub no-point : b ≡ code "." → ⊥
+
+module _ (bs : List ℕ) where
+  pub lexeme-space : space (at bs 0) ≡ true → Blank (run space bs) ≡ lexeme bs
+  unfolding lexeme
+  lexeme-space e = simp e
+
+  module _ (e : at bs 0 ≡ slash) where
+    pub slash-line : at bs 1 ≡ slash → line-comment bs ≡ lexeme bs
+    unfolding lexeme space
+    slash-line f = simp (e, f)
+
+    pub slash-block : at bs 1 ≡ code "*" → block-comment bs ≡ lexeme bs
+    unfolding lexeme space
+    slash-block f = simp (e, f)
+
+    pub slash-mark : (at bs 1 ≡ slash → ⊥) → (at bs 1 ≡ code "*" → ⊥) → mark bs ≡ lexeme bs
+    unfolding lexeme space quote letter digit
+    slash-mark f g = simp (e, ne-eqb (at bs 1) slash f, ne-eqb (at bs 1) (code "*") g)
+
+  pub quote-literal : (at bs 0 ≡ code "\"") ⊎ (at bs 0 ≡ code "'") → literal bs ≡ lexeme bs
+  unfolding lexeme space quote
+  quote-literal (inl e) = simp e
+  quote-literal (inr e) = simp e
+
+  module _ (e : at bs 0 ≡ wide) where
+    pub wide-quote : quote (at bs 1) ≡ true → wide-literal bs ≡ lexeme bs
+    unfolding lexeme space quote
+    wide-quote f = simp (e, f)
+
+    pub wide-word : quote (at bs 1) ≡ false → word bs ≡ lexeme bs
+    unfolding lexeme space quote letter
+    wide-word f = simp (e, f)
+
+  module _ (e : at bs 0 ≡ underscore) where
+    pub underscore-word : letter (at bs 1) ≡ true → escaped-word bs ≡ lexeme bs
+    unfolding lexeme space quote letter
+    underscore-word f = simp (e, f)
+
+    pub underscore-mark : letter (at bs 1) ≡ false → mark bs ≡ lexeme bs
+    unfolding lexeme space quote letter digit
+    underscore-mark f = simp (e, f)
+
+  pub point-number : at bs 0 ≡ code "." → number bs ≡ lexeme bs
+  unfolding lexeme space quote letter digit
+  point-number e = simp e
+
+  module _ (p : Plain (at bs 0)) where
+    pub letter-word : letter (at bs 0) ≡ true → word bs ≡ lexeme bs
+    unfolding lexeme quote
+    letter-word e =
+        simp (p .no-space, ne-eqb _ _ (p .no-slash), ne-eqb _ _ (λ q. p .no-quote (inl q)), ne-eqb _ _ (λ q. p .no-quote (inr q)), ne-eqb _ _ (p .no-wide), e)
+
+    pub digit-number : letter (at bs 0) ≡ false → digit (at bs 0) ≡ true → number bs ≡ lexeme bs
+    unfolding lexeme quote
+    digit-number e f =
+        simp (
+          p .no-space,
+          ne-eqb _ _ (p .no-slash),
+          ne-eqb _ _ (λ q. p .no-quote (inl q)),
+          ne-eqb _ _ (λ q. p .no-quote (inr q)),
+          ne-eqb _ _ (p .no-wide),
+          ne-eqb _ _ (p .no-underscore),
+          e,
+          f,
+        )
+
+    pub other-mark : letter (at bs 0) ≡ false → digit (at bs 0) ≡ false → mark bs ≡ lexeme bs
+    unfolding lexeme quote
+    other-mark e f =
+        simp (
+          p .no-space,
+          ne-eqb _ _ (p .no-slash),
+          ne-eqb _ _ (λ q. p .no-quote (inl q)),
+          ne-eqb _ _ (λ q. p .no-quote (inr q)),
+          ne-eqb _ _ (p .no-wide),
+          ne-eqb _ _ (p .no-underscore),
+          ne-eqb _ _ (p .no-point),
+          e,
+          f,
+        )

@@ -1,0 +1,96 @@
+// The lexeme at the front of the rest of a text, sorted by its first byte and, where that does not decide, its second.
+ghost use mathlib.Core.Path.{_≡_};
+ghost use Prim.Native.Nat.{_<_};
+ghost use lib.ListN.{length};
+ghost use Rattle.lexemes.specs.Fronts as fronts;
+ghost use Rattle.text.specs.Bytes.{at};
+ghost use Rattle.text.specs.Lexemes as lexemes;
+ghost use Rattle.text.specs.Literals.{quote};
+ghost use Rattle.words.specs.Table.{table};
+use blanks::block_comment;
+use blanks::line_comment;
+use literals::literal;
+use literals::wide_literal;
+use marks::mark;
+use numbers::number;
+use text::Class;
+use text::Lexeme;
+use words::escaped_word;
+use words::word;
+
+// A byte that opens a literal; 256, past the end of the text, opens none.
+fn is_quote(b: u32) -> bool
+    ensures { λ r. ⌜ r ≡ quote b ⌝ }
+{
+    match b {
+        34 | 39 => true,
+        _ => false,
+    }
+}
+
+// After a slash: a comment, or the mark.
+fn slash(bs: &[u8]) -> Lexeme
+    requires { ⌜ at (now bs) 0 ≡ fronts.slash ⌝ }
+    ensures { λ r. ⌜ r ≡ lexemes.lexeme (now (bs .entry)) ⌝ }
+{
+    let second = text::byte_at(bs, 1);
+    if second == 47 {
+        return line_comment(bs);
+    }
+    if second == 42 {
+        return block_comment(bs);
+    }
+    mark(bs)
+}
+
+// After an L: a wide literal where a quote comes directly, or a word.
+fn wide_or_word(words: &[u8; 932], bs: &[u8]) -> Lexeme
+    requires { ⌜ (now words ≡ table) × (at (now bs) 0 ≡ fronts.wide) ⌝ }
+    ensures { λ r. ⌜ r ≡ lexemes.lexeme (now (bs .entry)) ⌝ }
+{
+    if is_quote(text::byte_at(bs, 1)) {
+        return wide_literal(bs);
+    }
+    word(words, bs)
+}
+
+// After an underscore: a word makes an identifier; without one no lexeme starts here.
+fn underscore(bs: &[u8]) -> Lexeme
+    requires { ⌜ at (now bs) 0 ≡ fronts.underscore ⌝ }
+    ensures { λ r. ⌜ r ≡ lexemes.lexeme (now (bs .entry)) ⌝ }
+{
+    if bs.len() < 2 {
+        return mark(bs);
+    }
+    if text::is_letter(bs[1]) {
+        return escaped_word(bs);
+    }
+    mark(bs)
+}
+
+// The lexeme at the front. `words` is the table of keywords, which the caller makes once.
+pub fn lexeme(words: &[u8; 932], bs: &[u8]) -> Lexeme
+    requires { ⌜ (now words ≡ table) × (0 < length (now bs)) ⌝ }
+    ensures { λ r. ⌜ r ≡ lexemes.lexeme (now (bs .entry)) ⌝ }
+{
+    let first = bs[0];
+    if text::is_space(first) {
+        return Lexeme::Blank(text::run_of(Class::Space, bs));
+    }
+    match first {
+        b'/' => slash(bs),
+        b'"' | b'\'' => literal(bs),
+        b'L' => wide_or_word(words, bs),
+        b'_' => underscore(bs),
+        b'.' => number(bs),
+        _ => {
+            if text::is_letter(first) {
+                return word(words, bs);
+            }
+            if text::is_digit(first) {
+                return number(bs);
+            }
+            mark(bs)
+        }
+    }
+}

@@ -1,0 +1,79 @@
+-- The tokens of a text lie inside it in order, so they are at most as many as its bytes.
+-- By induction on the lexemes: each takes a byte at least, and none past the end. Assumes nothing.
+use mathlib.Core.List.{List, [], _∷_}
+use mathlib.Core.Path.{_≡_, refl, subst}
+use Prim.Native.Nat.{ℕ, zero, suc, _+_, _≤_, _<_}
+use native.Mathlib.Nat.{le-refl, le-trans, le-add-right}
+use native.Mathlib.Omega.{arith}
+use lib.ListN.{length, drop, length-drop}
+use Rattle.tables.specs.Tables.{token-width, Records, none as no-records, more as more-records}
+use Rattle.text.specs.Lexemes.{lexeme}
+use Rattle.text.specs.Tokens.{Tokens, tokens, token, before, then, tokens-in, tokens-of}
+use Rattle.text.specs.declared.Lexeme.{Lexeme}
+use Rattle.text.specs.declared.Lexeme.the-variants.{Blank, Token, NoLexeme, Open, BadLiteral, OtherCase}
+use Rattle.tokens.specs.Order.{InOrder, none, next, Ordered, ordered, faulty}
+use Rattle.text.proofs.Sizes.{Sized}
+use Rattle.lexemes.proofs.Sizes.{lexeme-sized}
+
+sooner : {from start to : ℕ} {ts : Tokens} → from ≤ start → Ordered start to ts → Ordered from to ts
+sooner h (ordered (none e)) = ordered (none (le-trans h e))
+sooner h (ordered (next e s o)) = ordered (next (le-trans h e) s o)
+sooner h faulty = faulty
+
+one-more : {from size to : ℕ} {ts : Tokens} (kind : ℕ) → 0 < size → Ordered (from + size) to ts → Ordered from to (before (token kind from size) ts)
+unfolding before
+one-more kind s (ordered o) = ordered (next (le-refl _) s o)
+one-more kind s faulty = faulty
+
+module _ (place : ℕ) (bs : List ℕ) (rest : ℕ → Tokens) (more : (n : ℕ) → Ordered (place + n) (place + n + length (drop n bs)) (rest n)) where
+  after : (n : ℕ) → n ≤ length bs → Ordered (place + n) (place + length bs) (rest n)
+  after n h =
+      let e : place + n + length (drop n bs) ≡ place + length bs = omega (arith, length-drop n bs) in
+      subst (λ (to : ℕ). Ordered (place + n) to (rest n)) e (more n)
+
+  one-lexeme : (l : Lexeme) → Sized (length bs) l → Ordered place (place + length bs) (then l place rest)
+  unfolding then
+  one-lexeme (Blank n) w = sooner (omega arith) (after n (w .1))
+  one-lexeme (Token kind n) w = one-more kind (w .0) (after n (w .1))
+  one-lexeme NoLexeme w = faulty
+  one-lexeme Open w = faulty
+  one-lexeme BadLiteral w = faulty
+  one-lexeme (OtherCase kind) w = faulty
+
+in-order : (most place : ℕ) (bs : List ℕ) → Ordered place (place + length bs) (tokens-in most place bs)
+unfolding tokens-in
+in-order zero place bs = ordered (none (le-add-right _ _))
+in-order (suc most) place [] = ordered (none (le-add-right _ _))
+in-order (suc most) place (b ∷ bs) =
+    one-lexeme place (b ∷ bs) (λ n. tokens-in most (place + n) (drop n (b ∷ bs))) (λ n. in-order most (place + n) (drop n (b ∷ bs)))
+    (lexeme (b ∷ bs)) (lexeme-sized (b ∷ bs) (omega arith))
+
+-- the tokens of a text lie inside it in order
+pub tokens-ordered : (text : List ℕ) → Ordered 0 (length text) (tokens-of text)
+unfolding tokens-of
+tokens-ordered text =
+    let e : 0 + length text ≡ length text = omega arith in
+    subst (λ (to : ℕ). Ordered 0 to (tokens-of text)) e (in-order (length text) 0 text)
+
+in-order-few : {from to : ℕ} {ts : List (List ℕ)} → InOrder from to ts → from + length ts ≤ to
+in-order-few (none e) = omega arith
+in-order-few (next e s o) = let h = in-order-few o in omega arith
+
+in-order-records : {from to : ℕ} {ts : List (List ℕ)} → InOrder from to ts → Records token-width ts
+in-order-records (none e) = no-records
+in-order-records (next e s o) = more-records refl (in-order-records o)
+
+list-of : {from to : ℕ} {ts : List (List ℕ)} → Ordered from to (tokens ts) → InOrder from to ts
+list-of (ordered o) = o
+
+module _ (text : List ℕ) {ts : List (List ℕ)} (e : tokens-of text ≡ tokens ts) where
+  whole : InOrder 0 (length text) ts
+  whole = list-of (subst (λ (found : Tokens). Ordered 0 (length text) found) e (tokens-ordered text))
+
+  -- there are at most as many tokens as bytes
+  pub tokens-few : length ts ≤ length text
+  tokens-few = let h = in-order-few whole in omega arith
+
+  -- and each has its record
+  pub tokens-records : Records token-width ts
+  tokens-records = in-order-records whole

@@ -1,0 +1,72 @@
+// The token part: the tokens of a text as records of a lent table, or the text's first fault.
+ghost use mathlib.Core.Path.{_≡_};
+ghost use Prim.Native.Nat.{_<_, _^_};
+ghost use lib.ListN.{length};
+ghost use Rattle.text.specs.Tokens.{tokens-of};
+ghost use Rattle.tokens.specs.Answer.{Scanned, token-reply, token-table};
+use lexemes::lexeme;
+use limits::Limits;
+use replies::Reply;
+use tables::clear;
+use tables::put_token;
+use text::Lexeme;
+
+// What the whole text is: so many tokens, or its first fault.
+pub enum Found {
+    Tokens(usize),
+    Fault(Reply),
+}
+
+// Reads the whole text. The records go into the table while it has room; counting goes on when it is full.
+fn scan(text: &[u8], tokens: &mut [u32]) -> Found
+    requires { ⌜ length (now text) < 2 ^ 32 ⌝ }
+    ensures { λ r. ⌜ Scanned (tokens-of (now (text .entry))) (now (tokens .entry)) (now (tokens .exit)) r ⌝ }
+{
+    let words = words::words();
+    let mut at = 0;
+    let mut n = 0;
+    while at < text.len() {
+        let found = lexeme(&words, &text[at..]);
+        match found {
+            Lexeme::Blank(size) => at += size,
+            Lexeme::Token(kind, size) => {
+                put_token(tokens, n, kind, at as u32, size as u32);
+                n += 1;
+                at += size;
+            }
+            Lexeme::NoLexeme => return Found::Fault(Reply::no_lexeme(at as u32)),
+            Lexeme::Open => return Found::Fault(Reply::left_open(at as u32)),
+            Lexeme::BadLiteral => return Found::Fault(Reply::bad_literal(at as u32)),
+            Lexeme::OtherCase(_) => return Found::Fault(Reply::other_case(at as u32)),
+        }
+    }
+    Found::Tokens(n)
+}
+
+// The token part. The text is read for its faults before the table's room counts.
+pub fn read_tokens(text: &[u8], tokens: &mut [u32]) -> Reply
+    ensures reply { λ r. do
+      most ← ⟦Limits::TEXT⟧ .entry
+      ⌜ r ≡ token-reply most (now (text .entry)) (now (tokens .entry)) ⌝ }
+    ensures table { λ _. do
+      most ← ⟦Limits::TEXT⟧ .entry
+      ⌜ now (tokens .exit) ≡ token-table most (now (text .entry)) (now (tokens .entry)) ⌝ }
+{
+    if Limits::TEXT < text.len() {
+        return Reply::outside_limits();
+    }
+    let found = scan(text, tokens);
+    match found {
+        Found::Fault(reply) => {
+            clear(tokens);
+            reply
+        }
+        Found::Tokens(n) => {
+            if n <= tokens.len() / 3 {
+                return Reply::accepted(text.len() as u32, n as u32, 0);
+            }
+            clear(tokens);
+            Reply::more_tokens(text.len() as u32, n as u32)
+        }
+    }
+}
