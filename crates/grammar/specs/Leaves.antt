@@ -76,5 +76,8 @@ pub width-leaves : (f : Forest) → width f ≡ length (leaves f)
 unfolding width leaves
 width-leaves end = refl
 width-leaves (leaf f k) = let h = width-leaves f in let e = length-append (leaves f) (k ∷ []) in omega arith
-width-leaves (node f r c) = let h = width-leaves f in let h′ = width-leaves c in
-    let e = length-append (leaves f) (leaves c) in omega arith
+width-leaves (node f r c) =
+    let h = width-leaves f in
+    let h′ = width-leaves c in
+    let e = length-append (leaves f) (leaves c) in
+    omega arith

@@ -36,7 +36,8 @@ module _ (t : Table) (o : Typed t) (s : ℕ → ℕ) (exact : (n : ℕ) → T (t
 
   passes : (a b : Plan) (k : ℕ) → (T (elem k (first t (alt a b))) → ⊥) → T (not (goes t a b k)) → T (null t a) → ⊥
   unfolding goes first
-  passes a b k n u v = T-not (elem k (first t a) || (not (elem k (first t b)) && null t a)) u
+  passes a b k n u v =
+      T-not (elem k (first t a) || (not (elem k (first t b)) && null t a)) u
       (or-right (elem k (first t a)) (not (elem k (first t b)) && null t a)
       (and-both (not (elem k (first t b))) (null t a)
       (not-T (elem k (first t b)) (λ w. n (elem-right k (first t a) (first t b) w))) v))
@@ -129,7 +130,8 @@ module _ (t : Table) (o : Typed t) (s : ℕ → ℕ) (exact : (n : ℕ) → T (t
       go : {m : ℕ} {h : Forest} → T (null t a) ⊎ T (not (null t a)) → (T (null t a) → Skips i (done m h)) →
           ((T (null t a) → ⊥) → done m h ≡ blame i) →
           ((T (null t b) → ⊥) → (T (elem (s m) (first t b)) → ⊥) → x ≡ blame m) → x ≡ blame i
-      go (inl v) p q w = let e = skips-eq (p v) in
+      go (inl v) p q w =
+          let e = skips-eq (p v) in
           w (λ y. u (and-both (null t a) (null t b) v y))
           (λ y. n (first-r a b (s i) v (subst (λ (k : ℕ). T (elem (s k) (first t b))) e y))) ∙ ap blame e
       go (inr v) p q w = absurd (stop-blame (q (λ y. T-not (null t a) v y)))
@@ -152,7 +154,8 @@ module _ (t : Table) (o : Typed t) (s : ℕ → ℕ) (exact : (n : ℕ) → T (t
 
   not-goes : (a b : Plan) (k : ℕ) → (T (elem k (first t a)) → ⊥) → (T (null t a) → ⊥) → T (not (goes t a b k))
   unfolding goes
-  not-goes a b k n u = not-T (elem k (first t a) || (not (elem k (first t b)) && null t a))
+  not-goes a b k n u =
+      not-T (elem k (first t a) || (not (elem k (first t b)) && null t a))
       (λ v. go (or-cases (elem k (first t a)) (not (elem k (first t b)) && null t a) v))
     where
       go : T (elem k (first t a)) ⊎ T (not (elem k (first t b)) && null t a) → ⊥
@@ -180,6 +183,7 @@ module _ (t : Table) (o : Typed t) (s : ℕ → ℕ) (exact : (n : ℕ) → T (t
     where
       go : T (turns t b (s i)) ⊎ T (not (turns t b (s i))) → Runs t s d (alt a b) i f x
       go (inl v) = run-right (not-goes a b (s i) n u) v r
-      go (inr v) = let w = not-turns b (s i) v in
+      go (inr v) =
+          let w = not-turns b (s i) v in
           subst (λ (y : Outcome). Runs t s d (alt a b) i f y) (sym (miss (w .1) (w .0) r))
           (run-neither (not-goes a b (s i) n u) v)

@@ -43,7 +43,8 @@ seq-right-typed t a b h =
 pub seq-apart : (t : Table) (a b : Plan) → T (typed t (seq a b)) → (k : ℕ) → T (elem k (follow-last t a)) →
     T (elem k (first t b)) → ⊥
 unfolding typed
-seq-apart t a b h k = disjoint-not k (follow-last t a) (first t b)
+seq-apart t a b h k =
+    disjoint-not k (follow-last t a) (first t b)
     (and-right (typed t a && typed t b) (disjoint (follow-last t a) (first t b)) h)
 
 pub alt-left-typed : (t : Table) (a b : Plan) → T (typed t (alt a b)) → T (typed t a)
@@ -61,13 +62,15 @@ alt-right-typed t a b h =
 pub alt-apart : (t : Table) (a b : Plan) → T (typed t (alt a b)) → (k : ℕ) → T (elem k (first t a)) →
     T (elem k (first t b)) → ⊥
 unfolding typed
-alt-apart t a b h k = disjoint-not k (first t a) (first t b)
+alt-apart t a b h k =
+    disjoint-not k (first t a) (first t b)
     (and-left (disjoint (first t a) (first t b)) (not (null t a && null t b))
     (and-right (typed t a && typed t b) (disjoint (first t a) (first t b) && not (null t a && null t b)) h))
 
 pub alt-one-null : (t : Table) (a b : Plan) → T (typed t (alt a b)) → T (null t a) → T (null t b) → ⊥
 unfolding typed
-alt-one-null t a b h u v = T-not (null t a && null t b)
+alt-one-null t a b h u v =
+    T-not (null t a && null t b)
     (and-right (disjoint (first t a) (first t b)) (not (null t a && null t b))
     (and-right (typed t a && typed t b) (disjoint (first t a) (first t b) && not (null t a && null t b)) h))
     (and-both (null t a) (null t b) u v)
@@ -79,19 +82,22 @@ many-typed t a h = and-left (typed t a) (disjoint (follow-last t a) (first t a) 
 pub many-apart : (t : Table) (a : Plan) → T (typed t (many a)) → (k : ℕ) → T (elem k (follow-last t a)) →
     T (elem k (first t a)) → ⊥
 unfolding typed
-many-apart t a h k = disjoint-not k (follow-last t a) (first t a)
+many-apart t a h k =
+    disjoint-not k (follow-last t a) (first t a)
     (and-left (disjoint (follow-last t a) (first t a)) (not (null t a))
     (and-right (typed t a) (disjoint (follow-last t a) (first t a) && not (null t a)) h))
 
 pub many-not-null : (t : Table) (a : Plan) → T (typed t (many a)) → T (null t a) → ⊥
 unfolding typed
-many-not-null t a h = T-not (null t a)
+many-not-null t a h =
+    T-not (null t a)
     (and-right (disjoint (follow-last t a) (first t a)) (not (null t a))
     (and-right (typed t a) (disjoint (follow-last t a) (first t a) && not (null t a)) h))
 
 pub group-typed : (t : Table) (o c : ℕ) (b : Plan) → T (typed t (group o b c)) → T (typed t b)
 unfolding typed
-group-typed t o c b h = and-left (typed t b) (disjoint (follow-last t b) (c ∷ []))
+group-typed t o c b h =
+    and-left (typed t b) (disjoint (follow-last t b) (c ∷ []))
     (and-right (ltb 0 o && ltb 0 c) (typed t b && disjoint (follow-last t b) (c ∷ [])) h)
 
 pub group-apart : (t : Table) (o c : ℕ) (b : Plan) → T (typed t (group o b c)) → (k : ℕ) →

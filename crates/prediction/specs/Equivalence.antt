@@ -45,8 +45,10 @@ unfolding same-path
 same-path-equal [] [] u = refl
 same-path-equal [] (y ∷ ys) u = absurd u
 same-path-equal (x ∷ xs) [] u = absurd u
-same-path-equal (x ∷ xs) (y ∷ ys) u = let a = same-plan-equal x y (and-left (same-plan x y) (same-path xs ys) u) in
-    let b = same-path-equal xs ys (and-right (same-plan x y) (same-path xs ys) u) in cc
+same-path-equal (x ∷ xs) (y ∷ ys) u =
+    let a = same-plan-equal x y (and-left (same-plan x y) (same-path xs ys) u) in
+    let b = same-path-equal xs ys (and-right (same-plan x y) (same-path xs ys) u) in
+    cc
 
 unfoldable pub path-in : List Plan → List (List Plan) → Bool
 unfolding same-path
@@ -187,7 +189,8 @@ module _ {Q : ℕ → Plan} {s : ℕ → ℕ} where
   -- from p to p′, with the leading calls of p opened; of p′ opened
   pub by-paths : (k : ℕ) (l : List ℕ) (p p′ : Plan) {i j : ℕ} {g : Forest} →
       T (paths-in (opens k Q l (paths p)) (paths p′)) → PlanDerives Q s p i j end g → PlanDerives Q s p′ i j end g
-  by-paths k l p p′ u d = from-paths p′
+  by-paths k l p p′ u d =
+      from-paths p′
       (sub-some (opens k Q l (paths p)) (paths p′) u (opens-to k l (paths p) (to-paths p d)))
 
   pub by-paths′ : (k : ℕ) (l : List ℕ) (p p′ : Plan) {i j : ℕ} {g : Forest} →

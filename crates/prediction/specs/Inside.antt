@@ -31,7 +31,8 @@ token-positive t k u = ltb→lt 0 k u
 
 pub group-positive : (t : Table) (o c : ℕ) (b : Plan) → T (typed t (group o b c)) → (0 < o) × (0 < c)
 unfolding typed
-group-positive t o c b u = let v = and-left (ltb 0 o && ltb 0 c) (typed t b && _) u in
+group-positive t o c b u =
+    let v = and-left (ltb 0 o && ltb 0 c) (typed t b && _) u in
     (ltb→lt 0 o (and-left (ltb 0 o) (ltb 0 c) v), ltb→lt 0 c (and-right (ltb 0 o) (ltb 0 c) v))
 
 module _ (t : Table) (o : Typed t) (s : ℕ → ℕ) (n : ℕ) (z : (q : ℕ) → n ≤ q → s q ≡ 0) where

@@ -158,7 +158,8 @@ module _ (t : Table) (o : Typed t) (s : ℕ → ℕ) (n : ℕ) (z : (q : ℕ) �
 
           go : T (elem (s i) (first t a)) ⊎ T (not (elem (s i) (first t a))) → (Unit {0} → Result t s d a i f) →
               Result t s d (many a) i f
-          go (inl y) x = after (x tt)
+          go (inl y) x =
+              after (x tt)
               (λ m g q. let l = full a u (look t s o (sound q)) in
               with-first m g y q (ih d m (many a) g u (inside t o s n z (many-typed t a u) h (sound q)) (omega arith)))
               (λ e q x. run-more-stop y x q)

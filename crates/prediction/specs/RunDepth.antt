@@ -33,7 +33,8 @@ marked (many a) = marked a
 
 level-plain : (s : ℕ → ℕ) (i k : ℕ) → s i ≡ k → T (marked (token k)) → depth s (suc i) ≡ depth s i
 unfolding depth marked level
-level-plain s i k e u = subst (λ (x : ℕ). level (opening x) (closing x) (depth s i) ≡ depth s i) (sym e)
+level-plain s i k e u =
+    subst (λ (x : ℕ). level (opening x) (closing x) (depth s i) ≡ depth s i) (sym e)
     (go (opening k) (closing k) u)
   where
     go : (a b : Bool) → T (not a && not b) → level a b (depth s i) ≡ depth s i
@@ -43,7 +44,8 @@ level-plain s i k e u = subst (λ (x : ℕ). level (opening x) (closing x) (dept
 
 level-open : (s : ℕ → ℕ) (i o : ℕ) → s i ≡ o → T (opening o) → depth s (suc i) ≡ suc (depth s i)
 unfolding depth level
-level-open s i o e u = subst (λ (x : ℕ). level (opening x) (closing x) (depth s i) ≡ suc (depth s i)) (sym e)
+level-open s i o e u =
+    subst (λ (x : ℕ). level (opening x) (closing x) (depth s i) ≡ suc (depth s i)) (sym e)
     (go (opening o) (closing o) u)
   where
     go : (a b : Bool) → T a → level a b (depth s i) ≡ suc (depth s i)
@@ -52,7 +54,8 @@ level-open s i o e u = subst (λ (x : ℕ). level (opening x) (closing x) (depth
 
 level-close : (s : ℕ → ℕ) (i c : ℕ) → s i ≡ c → T (not (opening c) && closing c) → depth s (suc i) ≡ pred (depth s i)
 unfolding depth level
-level-close s i c e u = subst (λ (x : ℕ). level (opening x) (closing x) (depth s i) ≡ pred (depth s i)) (sym e)
+level-close s i c e u =
+    subst (λ (x : ℕ). level (opening x) (closing x) (depth s i) ≡ pred (depth s i)) (sym e)
     (go (opening c) (closing c) u)
   where
     go : (a b : Bool) → T (not a && b) → level a b (depth s i) ≡ pred (depth s i)
@@ -62,12 +65,14 @@ level-close s i c e u = subst (λ (x : ℕ). level (opening x) (closing x) (dept
 
 marked-open : (o c : ℕ) (b : Plan) → T (marked (group o b c)) → T (opening o)
 unfolding marked
-marked-open o c b u = and-left (opening o) (not (opening c) && closing c)
+marked-open o c b u =
+    and-left (opening o) (not (opening c) && closing c)
     (and-left (opening o && (not (opening c) && closing c)) (marked b) u)
 
 marked-close : (o c : ℕ) (b : Plan) → T (marked (group o b c)) → T (not (opening c) && closing c)
 unfolding marked
-marked-close o c b u = and-right (opening o) (not (opening c) && closing c)
+marked-close o c b u =
+    and-right (opening o) (not (opening c) && closing c)
     (and-left (opening o && (not (opening c) && closing c)) (marked b) u)
 
 marked-body : (o c : ℕ) (b : Plan) → T (marked (group o b c)) → T (marked b)
@@ -162,7 +167,8 @@ module _ (t : Table) (s : ℕ → ℕ) (w : (n : ℕ) → T (marked (t .plan n))
   stop-depth u h (run-call {n = k} r e) = depth-done (stop-within (stop-depth (w k) h r))
   stop-depth u h (run-call-stop {n = k} r z) = stop-depth (w k) h r
   stop-depth {n} u h (run-wrap {i = i}) = depth-done (within-none s n i)
-  stop-depth {n} u h (run-seq {a = a} {b = b} r r′) = let y = level-kept (marked-left a b u) (sound r) in
+  stop-depth {n} u h (run-seq {a = a} {b = b} r r′) =
+      let y = level-kept (marked-left a b u) (sound r) in
       within-stop (stop-within (stop-depth (marked-left a b u) h r))
       (stop-depth (marked-right a b u) (omega arith) r′)
   stop-depth u h (run-seq-stop {a = a} {b = b} r z) = stop-depth (marked-left a b u) h r

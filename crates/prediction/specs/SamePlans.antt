@@ -37,7 +37,8 @@ module _ {E : Edition} (c : Checked E) where
   fit-number : (n : ℕ) → n < length ways-of →
       T (fits (rule-plan E) (plan-at (plans-of c)) n (getD ways-of n (opened [])))
   unfolding ways-of
-  fit-number n h = subst (λ (k : ℕ). T
+  fit-number n h =
+      subst (λ (k : ℕ). T
       (fits (rule-plan E) (plan-at (plans-of c)) k (getD (c .prediction .ways) n (opened [])))) (zero-add n)
       (fit-at (rule-plan E) (plan-at (plans-of c)) 0 (c .prediction .ways) (all-fit c) n h)
 
@@ -58,9 +59,11 @@ module _ {E : Edition} (c : Checked E) where
       where
         go : T (ltb n (length ways-of)) ⊎ T (not (ltb n (length ways-of))) →
             PlanDerives (plan-at (plans-of c)) s (plan-at (plans-of c) n) i j end g
-        go (inl u) = fits-to (rule-plan E) (plan-at (plans-of c)) s n (getD ways-of n (opened []))
+        go (inl u) =
+            fits-to (rule-plan E) (plan-at (plans-of c)) s n (getD ways-of n (opened []))
             (fit-number n (ltb→lt n (length ways-of) u)) i j g d
-        go (inr u) = subst (λ (z : Plan). PlanDerives (plan-at (plans-of c)) s z i j end g)
+        go (inr u) =
+            subst (λ (z : Plan). PlanDerives (plan-at (plans-of c)) s z i j end g)
             (past-end n (nltb→le n (length ways-of) u)) d
 
     frame-from : (n i j : ℕ) (g : Forest) → PlanDerives (rule-plan E) s (plan-at (plans-of c) n) i j end g →
@@ -69,9 +72,11 @@ module _ {E : Edition} (c : Checked E) where
       where
         go : T (ltb n (length ways-of)) ⊎ T (not (ltb n (length ways-of))) →
             PlanDerives (rule-plan E) s (rule-plan E n) i j end g
-        go (inl u) = fits-from (rule-plan E) (plan-at (plans-of c)) s n (getD ways-of n (opened []))
+        go (inl u) =
+            fits-from (rule-plan E) (plan-at (plans-of c)) s n (getD ways-of n (opened []))
             (fit-number n (ltb→lt n (length ways-of) u)) i j g d
-        go (inr u) = subst (λ (z : Plan). PlanDerives (rule-plan E) s z i j end g)
+        go (inr u) =
+            subst (λ (z : Plan). PlanDerives (rule-plan E) s z i j end g)
             (sym (past-end n (nltb→le n (length ways-of) u))) d
 
     pub to-plans : {e : RightSide} {i j : ℕ} {f g : Forest} → Derives E s e i j f g →

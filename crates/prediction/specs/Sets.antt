@@ -81,7 +81,8 @@ disjoint-not k (x ∷ xs) ys u t v =
     (λ a. disjoint-not k xs ys (and-right (not (elem x ys)) (disjoint xs ys) u) a v)
   where
     go : T (eqb k x) ⊎ T (elem k xs) → (T (elem k xs) → ⊥) → ⊥
-    go (inl a) ih = not-T (elem x ys) (and-left (not (elem x ys)) (disjoint xs ys) u)
+    go (inl a) ih =
+        not-T (elem x ys) (and-left (not (elem x ys)) (disjoint xs ys) u)
         (subst (λ (y : ℕ). T (elem y ys)) (eqb→eq k x a) v)
     go (inr a) ih = ih a
 

@@ -43,7 +43,8 @@ module _ {E : Edition} (c : Checked E) where
 
   -- each list of tokens has its derivation or its place of blame
   pub meaning : (ks : List ℕ) → Meaning E ks
-  meaning ks = go (parse (length ks) ks .0)
+  meaning ks =
+      go (parse (length ks) ks .0)
       (says c (length ks) ks (parse (length ks) ks .0) (parse (length ks) ks .1))
     where
       go : (x : Outcome) → Says E (length ks) ks x → Meaning E ks

@@ -154,7 +154,8 @@ module _ (S : List ℕ) (ps qs : List Plan) (passed : T (agree-on S S ps qs)) wh
       (agree-on S ns ps qs) u) n)
     where
       first-two : T (same-plan (plan-at ps m) (plan-at qs m) && calls-within S (plan-at ps m))
-      first-two = and-left (same-plan (plan-at ps m) (plan-at qs m) && calls-within S (plan-at ps m))
+      first-two =
+          and-left (same-plan (plan-at ps m) (plan-at qs m) && calls-within S (plan-at ps m))
           (agree-on S ns ps qs) u
 
       go : T (eqb n m) ⊎ T (elem n ns) →

@@ -125,7 +125,8 @@ module _ {E : Edition} (c : Checked E) where
 
   accepts : (ks : List ℕ) (d j : ℕ) (g : Forest) → j ≡ length ks → Reading ks d (done j g) → Derivation E ks g
   unfolding Derivation as-plan
-  accepts ks d j g e r = from-plans c (kind-at ks) (nonterminal (E .start))
+  accepts ks d j g e r =
+      from-plans c (kind-at ks) (nonterminal (E .start))
       (subst (λ (z : ℕ). PlanDerives (table-of c .plan) (kind-at ks) (call (E .start)) 0 z end g) e (sound r))
 
   pub says : (n : ℕ) (ks : List ℕ) (x : Outcome) → Reading ks n x → Says E n ks x
@@ -138,7 +139,9 @@ module _ {E : Edition} (c : Checked E) where
       done-at : (j : ℕ) (g : Forest) → Reading ks n (done j g) → Within (kind-at ks) n 0 j → j ≤ length ks →
           T (ltb j (length ks)) ⊎ T (not (ltb j (length ks))) → Says E n ks (done j g)
       done-at j g r l h (inl u) = let v = ltb→lt j (length ks) u in says-more v (early-blamed ks n j g v r) l
-      done-at j g r l h (inr u) = let v = nltb→le j (length ks) u in let e : j ≡ length ks = omega arith in
+      done-at j g r l h (inr u) =
+          let v = nltb→le j (length ks) u in
+          let e : j ≡ length ks = omega arith in
           says-derived e (accepts ks n j g e r) l
 
       go : (x : Outcome) → Reading ks n x → StopDepth (kind-at ks) n 0 x → stop x ≤ length ks → Says E n ks x

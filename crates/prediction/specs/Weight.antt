@@ -41,17 +41,27 @@ module _ (t : Table) (s : ℕ → ℕ) (cap : ℕ → ℕ) (all-weighed : (n : �
   unfolding nodes weight weighed
   weighs u (plan-token e) = omega arith
   weighs u (plan-group e d e′) = let h = weighs u d in omega arith
-  weighs u (plan-call {n = n} {f = f} {h = h} d e) = let x = weighs (all-weighed n) d in let y = capped n in
-      let z = nodes-join f h in let w = ap nodes e in omega arith
-  weighs u plan-wrap = omega arith
-  weighs u (plan-seq {a = a} {b = b} x y) = let h = weighs (and-left (weighed cap a) (weighed cap b) u) x in
-      let h′ = weighs (and-right (weighed cap a) (weighed cap b) u) y in omega arith
-  weighs u (plan-left {a = a} {b = b} x) = let h = weighs (and-left (weighed cap a) (weighed cap b) u) x in
+  weighs u (plan-call {n = n} {f = f} {h = h} d e) =
+      let x = weighs (all-weighed n) d in
+      let y = capped n in
+      let z = nodes-join f h in
+      let w = ap nodes e in
       omega arith
-  weighs u (plan-right {a = a} {b = b} x) = let h = weighs (and-right (weighed cap a) (weighed cap b) u) x in
+  weighs u plan-wrap = omega arith
+  weighs u (plan-seq {a = a} {b = b} x y) =
+      let h = weighs (and-left (weighed cap a) (weighed cap b) u) x in
+      let h′ = weighs (and-right (weighed cap a) (weighed cap b) u) y in
+      omega arith
+  weighs u (plan-left {a = a} {b = b} x) =
+      let h = weighs (and-left (weighed cap a) (weighed cap b) u) x in
+      omega arith
+  weighs u (plan-right {a = a} {b = b} x) =
+      let h = weighs (and-right (weighed cap a) (weighed cap b) u) x in
       omega arith
   weighs u plan-skip = omega arith
   weighs u plan-none = omega arith
-  weighs u (plan-more {a = a} x y) = let h = weighs (and-left (weighed cap a) (leb (weight cap a) 1000) u) x in
+  weighs u (plan-more {a = a} x y) =
+      let h = weighs (and-left (weighed cap a) (leb (weight cap a) 1000) u) x in
       let h′ = weighs u y in
-      let k = leb→le (weight cap a) 1000 (and-right (weighed cap a) (leb (weight cap a) 1000) u) in omega arith
+      let k = leb→le (weight cap a) 1000 (and-right (weighed cap a) (leb (weight cap a) 1000) u) in
+      omega arith

@@ -123,7 +123,8 @@ generate-seq t a b x y = record {
 }
 
 generate-left : (t : Table) (a b : Plan) → Generates t a → Generates t (alt a b)
-generate-left t a b x = record
+generate-left t a b x =
+    record
     { word = x .word; makes = λ s i f r. let u = x .makes s i f r in (u .0, plan-left (u .1)) }
 
 generate-right : (t : Table) (a b : Plan) → Generates t b → Generates t (alt a b)
@@ -131,7 +132,8 @@ generate-right t a b x =
     record { word = x .word; makes = λ s i f r. let u = x .makes s i f r in (u .0, plan-right (u .1)) }
 
 generate-call : (t : Table) (n : ℕ) → Generates t (t .plan n) → Generates t (call n)
-generate-call t n x = record
+generate-call t n x =
+    record
     { word = x .word; makes = λ s i f r. let u = x .makes s i end r in (join f (u .0), plan-call (u .1) refl) }
 
 generate-wrap : (t : Table) (n : ℕ) → Generates t (wrap n)
