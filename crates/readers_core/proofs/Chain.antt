@@ -186,7 +186,8 @@ passed-on m {q} {ks} {d} {x} {s} {s′} k e h c t y = record {
         record {
           outcome = blame n;
           run =
-              run-call-stop (back h (run-seq-stop (stops-alone q (and-left (single q) (not (recorded idl m 1)) t) tt r) tt))
+              run-call-stop
+              (back h (run-seq-stop (stops-alone q (and-left (single q) (not (recorded idl m 1)) t) tt r) tt))
               tt;
           ends = ends-blame u v;
         }
@@ -194,7 +195,8 @@ passed-on m {q} {ks} {d} {x} {s} {s′} k e h c t y = record {
         record {
           outcome = deep n;
           run =
-              run-call-stop (back h (run-seq-stop (stops-alone q (and-left (single q) (not (recorded idl m 1)) t) tt r) tt))
+              run-call-stop
+              (back h (run-seq-stop (stops-alone q (and-left (single q) (not (recorded idl m 1)) t) tt r) tt))
               tt;
           ends = ends-deep u v;
         }

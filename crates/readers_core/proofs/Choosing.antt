@@ -1,6 +1,7 @@
 -- What a plan comes to where something is known of the next kind: one test for a choice, however many alternatives it has.
 -- By induction on the plan; that the last alternative needs no test is prediction's law. Assumes nothing.
-use Prim.Native.Nat.{ℕ}
+use Prim.Native.Nat.{ℕ, zero, suc, _+_, _≤_}
+use native.Mathlib.Omega.{arith}
 use mathlib.Core.Path.{_≡_, refl, sym, subst}
 use mathlib.Core.Logic.{_⊎_, inl, inr, ⊎-elim}
 use mathlib.Core.Bool.{Bool, true, false, not, _&&_, _||_}
@@ -9,7 +10,7 @@ use lib.Dec.{T, T-not, not-T, eqb, eqb→eq, eqb-refl}
 use Rattle.grammar.specs.Forest.{Forest}
 use Rattle.grammar.specs.Sets.{elem}
 use Rattle.prediction.specs.Sets.{subset, disjoint, subset-in, disjoint-not, and-left, and-right, and-both, or-left}
-use Rattle.prediction.specs.Sets.{or-right, or-cases, decide}
+use Rattle.prediction.specs.Sets.{or-right, or-cases, decide, elem-left, elem-right, elem-eq}
 use Rattle.prediction.specs.Plan.{Plan, token, group, call, wrap, seq, alt, skip, many}
 use Rattle.prediction.specs.Typing.{Table, first, null}
 use Rattle.prediction.specs.Run.{Outcome, blame, goes, turns, Runs, run-left, run-right, run-neither, run-seq}
@@ -53,6 +54,23 @@ any-elem [] x h = h
 any-elem (k ∷ []) x h = or-left (eqb x k) false (same x k h)
 any-elem (k ∷ (l ∷ ls)) x (inl h) = or-left (eqb x k) (elem x (l ∷ ls)) (same x k h)
 any-elem (k ∷ (l ∷ ls)) x (inr h) = or-right (eqb x k) (elem x (l ∷ ls)) (any-elem (l ∷ ls) x h)
+
+-- n kinds in a row, from a on
+unfoldable pub row : ℕ → ℕ → List ℕ
+row a zero = []
+row a (suc n) = a ∷ row (suc a) n
+
+pub any-row : (a n x : ℕ) → a ≤ x → x ≤ a + n → AnyOf (row a (suc n)) x
+unfolding row AnyOf
+any-row a zero x h l = omega arith
+any-row a (suc n) x h l = go (decide (eqb x a)) (λ m. any-row (suc a) n x m (omega arith))
+  where
+    go : T (eqb x a) ⊎ T (not (eqb x a)) → (suc a ≤ x → AnyOf (row (suc a) (suc n)) x) → (x ≡ a) ⊎ AnyOf (row (suc a) (suc n)) x
+    go (inl u) f = inl (eqb→eq x a u)
+    go (inr u) f = inr (f (omega (arith, apart)))
+      where
+        apart : x ≡ a → ⊥
+        apart e = T-not (eqb x a) u (same x a e)
 
 pub elem-any : (ks : List ℕ) (x : ℕ) → T (elem x ks) → AnyOf ks x
 unfolding AnyOf elem
@@ -232,3 +250,75 @@ run-chosen s {d} {i} k h (many a) {f} {x} r =
     go true m p q r = p tt r
     go false true p q r = q tt r
     go false false p q r = r
+
+-- token x is one of the alternatives, and none before it may begin with x
+unfoldable pub takes : ℕ → Plan → Bool
+unfolding first null elem
+takes x (token k) = eqb x k
+takes x (alt a b) = takes x a || (takes x b && (not (elem x (first idl-table a)) && not (null idl-table a)))
+takes x (group o b c) = false
+takes x (call n) = false
+takes x (wrap r) = false
+takes x (seq a b) = false
+takes x skip = false
+takes x (many a) = false
+
+unfoldable pub all-taken : List ℕ → Plan → Bool
+unfolding takes
+all-taken [] p = true
+all-taken (k ∷ ks) p = takes k p && all-taken ks p
+
+unfoldable pub one-of : Known → Plan → Bool
+unfolding all-taken
+one-of (among ks) p = all-taken ks p
+one-of (except arms) p = false
+
+taken-at : (ks : List ℕ) (p : Plan) (x : ℕ) → T (all-taken ks p) → T (elem x ks) → T (takes x p)
+unfolding all-taken elem
+taken-at [] p x u e = absurd e
+taken-at (k ∷ ks) p x u e =
+    ⊎-elim (λ v. subst (λ (n : ℕ). T (takes n p)) (sym (eqb→eq x k v)) (and-left (takes k p) (all-taken ks p) u))
+    (λ v. taken-at ks p x (and-right (takes k p) (all-taken ks p) u) v) (or-cases (eqb x k) (elem x ks) e)
+
+takes-first : (x : ℕ) (p : Plan) → T (takes x p) → T (elem x (first idl-table p))
+unfolding takes first
+takes-first x (token k) u = elem-eq x k (eqb→eq x k u)
+takes-first x (alt a b) u =
+    ⊎-elim (λ v. elem-left x (first idl-table a) (first idl-table b) (takes-first x a v))
+    (λ v. elem-right x (first idl-table a) (first idl-table b) (takes-first x b
+    (and-left (takes x b) (not (elem x (first idl-table a)) && not (null idl-table a)) v)))
+    (or-cases (takes x a) (takes x b && (not (elem x (first idl-table a)) && not (null idl-table a))) u)
+takes-first x (group o b c) u = absurd u
+takes-first x (call n) u = absurd u
+takes-first x (wrap r) u = absurd u
+takes-first x (seq a b) u = absurd u
+takes-first x skip u = absurd u
+takes-first x (many a) u = absurd u
+
+one-token : (s : ℕ → ℕ) {d i : ℕ} (p : Plan) {f : Forest} {x : Outcome} → T (takes (s i) p) →
+    Runs idl-table s d (token (s i)) i f x → Runs idl-table s d p i f x
+unfolding takes
+one-token s {d} {i} (token k) {f} {x} u r = subst (λ (n : ℕ). Runs idl-table s d (token n) i f x) (eqb→eq (s i) k u) r
+one-token s {d} {i} (alt a b) {f} {x} u r =
+    ⊎-elim (λ v. run-then idl-table (all-typed idl-checked) s (null-exactly idl-checked) a b (takes-first (s i) a v)
+    (one-token s a v r))
+    (λ v. let w = and-right (takes (s i) b) (not (elem (s i) (first idl-table a)) && not (null idl-table a)) v in
+    run-else idl-table (all-typed idl-checked) s (null-exactly idl-checked) a b
+    (T-not (elem (s i) (first idl-table a))
+    (and-left (not (elem (s i) (first idl-table a))) (not (null idl-table a)) w))
+    (T-not (null idl-table a) (and-right (not (elem (s i) (first idl-table a))) (not (null idl-table a)) w))
+    (one-token s b (and-left (takes (s i) b) (not (elem (s i) (first idl-table a)) && not (null idl-table a)) v) r))
+    (or-cases (takes (s i) a) (takes (s i) b && (not (elem (s i) (first idl-table a)) && not (null idl-table a))) u)
+one-token s (group o b c) u r = absurd u
+one-token s (call n) u r = absurd u
+one-token s (wrap n) u r = absurd u
+one-token s (seq a b) u r = absurd u
+one-token s skip u r = absurd u
+one-token s (many a) u r = absurd u
+
+-- the next token is one of those that the plan takes
+pub run-one-of : (s : ℕ → ℕ) {d i : ℕ} (k : Known) → Knows k (s i) → (p : Plan) {f : Forest} {x : Outcome} →
+    T (one-of k p) → Runs idl-table s d (token (s i)) i f x → Runs idl-table s d p i f x
+unfolding one-of Knows
+run-one-of s {i = i} (among ks) h p u r = one-token s p (taken-at ks p (s i) u (any-elem ks (s i) h)) r
+run-one-of s (except arms) h p u r = absurd u

@@ -76,7 +76,8 @@ far-over {ks} {d} {x} {start} {a} {s} {s′} k e h u far = far .on s′ (record 
             record {
               outcome = r .outcome;
               run =
-                  repeat-over (kind-at ks) k (subst (λ (n : ℕ). Knows k n) (e ∙ ahead-kind ks (s′ .0) g) h) a u (r .run);
+                  repeat-over (kind-at ks) k (subst (λ (n : ℕ). Knows k n) (e ∙ ahead-kind ks (s′ .0) g) h) a u
+                  (r .run);
               ends = r .ends;
             };
       };

@@ -9,7 +9,7 @@ use lib.ListN.{getD, length}
 use Rattle.grammar.specs.Forest.{Forest, width}
 use Rattle.grammar.specs.Idl.{idl}
 use Rattle.grammar.specs.Record.{TreeRecord, tree-record, shape, records}
-use Rattle.prediction.specs.Plan.{Plan, token, wrap}
+use Rattle.prediction.specs.Plan.{Plan, call, wrap}
 use Rattle.prediction.specs.Run.{Outcome, done, blame, deep, Runs}
 use Rattle.prediction.specs.IdlChecked.{idl-table}
 use Rattle.tables.specs.Tables.{token-width, node-width, put}
@@ -87,6 +87,13 @@ pub record Flat (ks : List ℕ) (p : Plan) (s s′ : State) : Type 0 where
 -- in the frame that began where `start` stands, whatever the depth
 pub record FlatWithin (ks : List ℕ) (start : Reading) (p : Plan) (s s′ : State) : Type 0 where
   pub at-any : (d : ℕ) → Within ks d start p s s′
+
+-- rule n, where its plan is p; and whatever the depth
+pub record Follows (ks : List ℕ) (d n : ℕ) (p : Plan) (s s′ : State) : Type 0 where
+  pub reads : idl-table .plan n ≡ p → Reads ks d (call n) s s′
+
+pub record FlatFollows (ks : List ℕ) (n : ℕ) (p : Plan) (s s′ : State) : Type 0 where
+  pub reads : idl-table .plan n ≡ p → Flat ks (call n) s s′
 
 -- tokens alone, whatever the depth and the tree table
 pub record Takes (ks : List ℕ) (p : Plan) (s s′ : Reading) : Type 0 where

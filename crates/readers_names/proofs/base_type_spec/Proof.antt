@@ -1,0 +1,108 @@
+-- `base_type_spec` reads rule 46: a number type in a frame of its own, or a rule of one word, whose node is passed on.
+-- The kind ahead tells which. Assumes nothing.
+use Rattle.grammar.specs.Record.{recorded}
+use Rattle.prediction.specs.Check.{table}
+use Rattle.prediction.specs.Columns.{plan-at, round}
+use Rattle.prediction.specs.IdlPlans.{idl-prediction}
+use Rattle.readers_core.proofs.Chain.{passed-on, single}
+use Rattle.readers_core.proofs.Choosing.{Knows, among, choose, except}
+use Rattle.readers_core.proofs.Frames.{frame-on, from-start}
+use Rattle.readers_core.proofs.Sequence.{_▸_}
+use borrow.Author.Needs.{needs}
+use mathlib.Core.List.{[], _∷_}
+use mathlib.Core.Path.{refl}
+use Rattle.readers_names.proofs.base_type_spec.Statement.{statement}
+use Rattle.readers_names.proofs.base_type_spec.Tie as tie
+
+returns : tie.Need-returns
+unfolding table round plan-at idl-prediction choose Knows single recorded
+returns c = record {
+  at-any = λ d. frame-on 46 (among (30 ∷ 35 ∷ 40 ∷ 51 ∷ 59 ∷ []))
+      (c .before .before .before .before .before .before .before .before .before .before .next-kind .ensures)
+      (c .before .before .before .before .before .before .before .before .before .match .keys1)
+      (c .before .before .before .before .before .before .before .before .enter .ensures)
+      (from-start (c .before .before .before .before .before .before .before .before .enter .ensures)
+      (c .before .before .before .before .before .before .number-type .ensures .at-any _) ▸
+      (c .before .before .leave .ensures .closes .wraps _ _)) (c .before .before .leave .ensures .joins);
+}
+
+returns-2 : tie.Need-returns-2
+unfolding table round plan-at idl-prediction choose Knows single recorded
+returns-2 c =
+    record {
+      at-any =
+          λ d. passed-on 46 (among (25 ∷ [])) (c .before .before .before .before .before .next-kind .ensures)
+          (c .before .before .before .before .match .keys2) refl tt
+          ((c .before .before .word .ensures .reads) refl .at-any d);
+    }
+
+returns-3 : tie.Need-returns-3
+unfolding table round plan-at idl-prediction choose Knows single recorded
+returns-3 c =
+    record {
+      at-any =
+          λ d. passed-on 46 (among (62 ∷ [])) (c .before .before .before .before .before .next-kind .ensures)
+          (c .before .before .before .before .match .keys3) refl tt
+          ((c .before .before .word2 .ensures .reads) refl .at-any d);
+    }
+
+returns-4 : tie.Need-returns-4
+unfolding table round plan-at idl-prediction choose Knows single recorded
+returns-4 c =
+    record {
+      at-any =
+          λ d. passed-on 46 (among (23 ∷ [])) (c .before .before .before .before .before .next-kind .ensures)
+          (c .before .before .before .before .match .keys4) refl tt
+          ((c .before .before .word3 .ensures .reads) refl .at-any d);
+    }
+
+returns-5 : tie.Need-returns-5
+unfolding table round plan-at idl-prediction choose Knows single recorded
+returns-5 c =
+    record {
+      at-any =
+          λ d. passed-on 46 (among (43 ∷ [])) (c .before .before .before .before .before .next-kind .ensures)
+          (c .before .before .before .before .match .keys5) refl tt
+          ((c .before .before .word4 .ensures .reads) refl .at-any d);
+    }
+
+returns-6 : tie.Need-returns-6
+unfolding table round plan-at idl-prediction choose Knows single recorded
+returns-6 c =
+    record {
+      at-any =
+          λ d. passed-on 46 (among (21 ∷ [])) (c .before .before .before .before .before .next-kind .ensures)
+          (c .before .before .before .before .match .keys6) refl tt
+          ((c .before .before .word5 .ensures .reads) refl .at-any d);
+    }
+
+returns-7 : tie.Need-returns-7
+unfolding table round plan-at idl-prediction choose Knows single recorded
+returns-7 c =
+    record {
+      at-any =
+          λ d. passed-on 46 (among (17 ∷ [])) (c .before .before .before .before .before .next-kind .ensures)
+          (c .before .before .before .before .match .keys7) refl tt
+          ((c .before .before .word6 .ensures .reads) refl .at-any d);
+    }
+
+returns-8 : tie.Need-returns-8
+unfolding table round plan-at idl-prediction choose Knows single recorded
+returns-8 c =
+    record {
+      at-any =
+          λ d. passed-on 46
+          (except ((17 ∷ []) ∷ (21 ∷ []) ∷ (43 ∷ []) ∷ (23 ∷ []) ∷ (62 ∷ []) ∷ (25 ∷ []) ∷ (30 ∷ 35 ∷ 40 ∷ 51 ∷ 59 ∷ []) ∷
+          [])) (c .before .before .before .before .before .next-kind .ensures)
+          (c .before .before .before .before .match .rest) refl tt
+          ((c .before .before .word7 .ensures .reads) refl .at-any d);
+    }
+
+pub base-type-spec-spec : {M : Type 1} → statement M
+base-type-spec-spec =
+    tie.close (tie.spec (λ c κs. search needs) (λ c κs. search needs) (λ c κs. search needs)
+    (λ c κs. search needs) (λ c κs. search needs) (λ c κs. search needs) (λ c κs. search needs)
+    (λ c κs. search needs) (λ c κs. search needs) (λ c κs. search needs) (λ c κs. search needs)
+    (λ c. search needs) returns (λ c. search needs) returns-2 (λ c. search needs) returns-3 (λ c. search needs)
+    returns-4 (λ c. search needs) returns-5 (λ c. search needs) returns-6 (λ c. search needs) returns-7
+    (λ c. search needs) returns-8)

@@ -1,0 +1,34 @@
+-- `integer_type` reads rule 54, which passes another rule's node on.
+-- The kind ahead tells which. Assumes nothing.
+use Rattle.grammar.specs.Record.{recorded}
+use Rattle.prediction.specs.Check.{table}
+use Rattle.prediction.specs.Columns.{plan-at, round}
+use Rattle.prediction.specs.IdlPlans.{idl-prediction}
+use Rattle.readers_core.proofs.Chain.{passed-on, single}
+use Rattle.readers_core.proofs.Choosing.{Knows, among, choose, except}
+use borrow.Author.Needs.{needs}
+use mathlib.Core.List.{[], _∷_}
+use mathlib.Core.Path.{refl}
+use Rattle.readers_names.proofs.integer_type.Statement.{statement}
+use Rattle.readers_names.proofs.integer_type.Tie as tie
+
+returns : tie.Need-returns
+unfolding table round plan-at idl-prediction choose Knows single recorded
+returns c = record {
+  at-any = λ d. passed-on 54 (among (59 ∷ [])) (c .before .before .before .before .before .next-kind .ensures)
+      (c .before .before .before .before .match .keys1) refl tt ((c .before .before .unsigned-int .ensures .at-any) d);
+}
+
+returns-2 : tie.Need-returns-2
+unfolding table round plan-at idl-prediction choose Knows single recorded
+returns-2 c =
+    record {
+      at-any =
+          λ d. passed-on 54 (except ((59 ∷ []) ∷ [])) (c .before .before .before .before .before .next-kind .ensures)
+          (c .before .before .before .before .match .rest) refl tt ((c .before .before .signed-int .ensures .at-any) d);
+    }
+
+pub integer-type-spec : {M : Type 1} → statement M
+integer-type-spec =
+    tie.close (tie.spec (λ c κs. search needs) (λ c κs. search needs) (λ c κs. search needs) (λ c. search needs)
+    returns (λ c. search needs) returns-2)

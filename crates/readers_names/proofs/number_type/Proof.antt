@@ -1,0 +1,70 @@
+-- `number_type` reads by its plan: the kind ahead tells the choice.
+-- What the plan comes to is what was called. Assumes nothing.
+use Rattle.prediction.specs.Check.{table}
+use Rattle.prediction.specs.Columns.{plan-at, round}
+use Rattle.prediction.specs.IdlPlans.{idl-prediction}
+use Rattle.readers_core.proofs.Choosing.{Knows, among, choose, except}
+use Rattle.readers_core.proofs.Frames.{chosen}
+use Rattle.readers_core.proofs.Sequence.{_▸_}
+use borrow.Author.Needs.{needs}
+use mathlib.Core.List.{[], _∷_}
+use Rattle.readers_names.proofs.number_type.Statement.{statement}
+use Rattle.readers_names.proofs.number_type.Tie as tie
+
+returns : tie.Need-returns
+unfolding table round plan-at idl-prediction choose Knows
+returns c = record {
+  at-any = λ d. chosen (among (40 ∷ [])) (c .before .before .before .before .before .before .next-kind .ensures)
+      (c .before .before .before .before .before .match .keys1)
+      ((c .before .before .before .before .take .ensures .reads _ _ .in-any _) ▸
+      (c .before .before .long-number .ensures .at-any _));
+}
+
+returns-2 : tie.Need-returns-2
+unfolding table round plan-at idl-prediction choose Knows
+returns-2 c =
+    record {
+      at-any =
+          λ d. chosen (among (35 ∷ [])) (c .before .before .before .before .before .before .next-kind .ensures)
+          (c .before .before .before .before .before .match .keys2)
+          ((c .before .before .before .before .take2 .ensures .reads _ _ .in-any _) ▸
+          (c .before .before .close .ensures .wraps _ _));
+    }
+
+returns-3 : tie.Need-returns-3
+unfolding table round plan-at idl-prediction choose Knows
+returns-3 c =
+    record {
+      at-any =
+          λ d. chosen (among (30 ∷ [])) (c .before .before .before .before .before .before .next-kind .ensures)
+          (c .before .before .before .before .before .match .keys3)
+          ((c .before .before .before .before .take3 .ensures .reads _ _ .in-any _) ▸
+          (c .before .before .close2 .ensures .wraps _ _));
+    }
+
+returns-4 : tie.Need-returns-4
+unfolding table round plan-at idl-prediction choose Knows
+returns-4 c =
+    record {
+      at-any = λ d. chosen (among (51 ∷ [])) (c .before .before .before .before .before .next-kind .ensures)
+          (c .before .before .before .before .match .keys4) (c .before .before .short-number .ensures .at-any _);
+    }
+
+returns-5 : tie.Need-returns-5
+unfolding table round plan-at idl-prediction choose Knows
+returns-5 c =
+    record {
+      at-any = λ d. chosen (except ((51 ∷ []) ∷ (30 ∷ []) ∷ (35 ∷ []) ∷ (40 ∷ []) ∷ []))
+          (c .before .before .before .before .before .before .before .before .before .next-kind .ensures)
+          (c .before .before .before .before .before .before .before .before .match .rest)
+          ((c .before .before .before .before .before .before .unsigned-int .ensures .at-any _ .in-any _) ▸
+          (c .before .before .close3 .ensures .wraps _ _));
+    }
+
+pub number-type-spec : {M : Type 1} → statement M
+number-type-spec =
+    tie.close (tie.spec (λ c κs. search needs) (λ c κs. search needs) (λ c κs. search needs)
+    (λ c κs. search needs) (λ c κs. search needs) (λ c κs. search needs) (λ c κs. search needs)
+    (λ c κs. search needs) (λ c κs. search needs) (λ c κs. search needs) (λ c. search needs) returns
+    (λ c. search needs) returns-2 (λ c. search needs) returns-3 (λ c. search needs) returns-4
+    (λ c. search needs) returns-5)

@@ -1,0 +1,17 @@
+-- `short_number` reads by its plan.
+-- Its calls are put together as its plan is. Assumes nothing.
+use Rattle.readers_core.proofs.Sequence.{_▸_}
+use borrow.Author.Needs.{needs}
+use Rattle.readers_names.proofs.short_number.Statement.{statement}
+use Rattle.readers_names.proofs.short_number.Tie as tie
+
+returns : tie.Need-returns
+returns c = record {
+  at-any = λ d.
+      (c .before .before .before .before .before .before .before .before .before .before .before .before .take .ensures .reads _ _ .in-any _) ▸ (c .before .before .before .before .before .before .before .before .before .before .close .ensures .wraps _ _) ▸ (c .before .before .before .before .before .before .close2 .ensures .wraps _ _) ▸ (c .before .before .close3 .ensures .wraps _ _);
+}
+
+pub short-number-spec : {M : Type 1} → statement M
+short-number-spec =
+    tie.close (tie.spec (λ c κs. search needs) (λ c κs. search needs) (λ c κs. search needs)
+    (λ c κs. search needs) (λ c. search needs) returns)

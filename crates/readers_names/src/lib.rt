@@ -1,0 +1,258 @@
+// Readers of names, literals and basic types: the rules that hold no expression.
+ghost use Rattle.prediction.specs.Plan.{call, seq, many, token, wrap};
+ghost use Rattle.readers_core.specs.Reading.{Short, Takes, Flat, FlatWithin, FlatFollows};
+ghost use Rattle.readers_names.specs.Plans.{first-name, further-name, behind-long, behind-unsigned, long-number};
+ghost use Rattle.readers_names.specs.Plans.{number-type};
+ghost use Prim.Native.Nat.{_<_};
+use readers_core::Reading;
+use readers_core::close;
+use readers_core::enter;
+use readers_core::join;
+use readers_core::kind;
+use readers_core::leave;
+use readers_core::next_kind;
+use readers_core::take;
+
+// The first name, which "::" may precede.
+fn first_name(tokens: &[u32], s: Reading) -> Reading
+    requires { ⌜ Short (now tokens) ⌝ }
+    ensures { λ r. ⌜ Takes (now (tokens .entry)) first-name s r ⌝ }
+{
+    let next = next_kind(tokens, s);
+    match next {
+        kind::SCOPE => {
+            let t = take(tokens, s, kind::SCOPE);
+            take(tokens, t, kind::IDENTIFIER)
+        }
+        _ => take(tokens, s, kind::IDENTIFIER),
+    }
+}
+
+// Each further step of a name is a node over what stands before it.
+fn further_names(tokens: &[u32], tree: &mut [u32], start: Reading, s: Reading) -> Reading
+    requires { ⌜ Short (now tokens) ⌝ }
+    ensures { λ r. ⌜ FlatWithin (now (tokens .entry)) start (many further-name) (s, now (tree .entry)) (r, now (tree .exit)) ⌝ }
+{
+    let mut t = s;
+    while next_kind(tokens, t) == kind::SCOPE {
+        let mark = take(tokens, t, kind::SCOPE);
+        let name = take(tokens, mark, kind::IDENTIFIER);
+        t = close(tree, start, name, 12);
+    }
+    t
+}
+
+// (12) scoped_name
+pub fn scoped_name(tokens: &[u32], tree: &mut [u32], s: Reading) -> Reading
+    requires { ⌜ Short (now tokens) ⌝ }
+    ensures { λ r. ⌜ Flat (now (tokens .entry)) (call 12) (s, now (tree .entry)) (r, now (tree .exit)) ⌝ }
+{
+    let b = enter(s);
+    let t = first_name(tokens, b);
+    let u = close(tree, s, t, 12);
+    let v = further_names(tokens, tree, s, u);
+    join(s, v)
+}
+
+// A rule that is one token, as (63) char_type.
+pub fn word(tokens: &[u32], tree: &mut [u32], s: Reading, word: u32, rule: u32) -> Reading
+    requires { ⌜ Short (now tokens) × (0 < word) ⌝ }
+    ensures { λ r. ⌜ FlatFollows (now (tokens .entry)) rule (seq (token word) (wrap rule)) (s, now (tree .entry)) (r, now (tree .exit)) ⌝ }
+{
+    let b = enter(s);
+    let t = take(tokens, b, word);
+    leave(tree, s, t, rule)
+}
+
+// Behind "long": a second "long" or nothing.
+fn behind_long(tokens: &[u32], tree: &mut [u32], start: Reading, s: Reading) -> Reading
+    requires { ⌜ Short (now tokens) ⌝ }
+    ensures { λ r. ⌜ FlatWithin (now (tokens .entry)) start behind-long (s, now (tree .entry)) (r, now (tree .exit)) ⌝ }
+{
+    let next = next_kind(tokens, s);
+    match next {
+        kind::LONG => {
+            let t = take(tokens, s, kind::LONG);
+            close(tree, start, t, 58)
+        }
+        _ => close(tree, start, s, 57),
+    }
+}
+
+// (55) signed_int
+fn signed_int(tokens: &[u32], tree: &mut [u32], s: Reading) -> Reading
+    requires { ⌜ Short (now tokens) ⌝ }
+    ensures { λ r. ⌜ Flat (now (tokens .entry)) (call 55) (s, now (tree .entry)) (r, now (tree .exit)) ⌝ }
+{
+    let b = enter(s);
+    let next = next_kind(tokens, b);
+    match next {
+        kind::SHORT => {
+            let t = take(tokens, b, kind::SHORT);
+            let u = close(tree, s, t, 56);
+            leave(tree, s, u, 55)
+        }
+        _ => {
+            let t = take(tokens, b, kind::LONG);
+            let u = behind_long(tokens, tree, s, t);
+            leave(tree, s, u, 55)
+        }
+    }
+}
+
+// Behind "unsigned": one of three types.
+fn behind_unsigned(tokens: &[u32], tree: &mut [u32], start: Reading, s: Reading) -> Reading
+    requires { ⌜ Short (now tokens) ⌝ }
+    ensures { λ r. ⌜ FlatWithin (now (tokens .entry)) start behind-unsigned (s, now (tree .entry)) (r, now (tree .exit)) ⌝ }
+{
+    let next = next_kind(tokens, s);
+    if next == kind::SHORT {
+        let t = take(tokens, s, kind::SHORT);
+        return close(tree, start, t, 60);
+    }
+    let t = take(tokens, s, kind::LONG);
+    let then = next_kind(tokens, t);
+    if then == kind::LONG {
+        let u = take(tokens, t, kind::LONG);
+        return close(tree, start, u, 62);
+    }
+    close(tree, start, t, 61)
+}
+
+// (59) unsigned_int
+fn unsigned_int(tokens: &[u32], tree: &mut [u32], s: Reading) -> Reading
+    requires { ⌜ Short (now tokens) ⌝ }
+    ensures { λ r. ⌜ Flat (now (tokens .entry)) (call 59) (s, now (tree .entry)) (r, now (tree .exit)) ⌝ }
+{
+    let b = enter(s);
+    let t = take(tokens, b, kind::UNSIGNED);
+    let u = behind_unsigned(tokens, tree, s, t);
+    leave(tree, s, u, 59)
+}
+
+// (54) integer_type
+pub fn integer_type(tokens: &[u32], tree: &mut [u32], s: Reading) -> Reading
+    requires { ⌜ Short (now tokens) ⌝ }
+    ensures { λ r. ⌜ Flat (now (tokens .entry)) (call 54) (s, now (tree .entry)) (r, now (tree .exit)) ⌝ }
+{
+    let next = next_kind(tokens, s);
+    match next {
+        kind::UNSIGNED => unsigned_int(tokens, tree, s),
+        _ => signed_int(tokens, tree, s),
+    }
+}
+
+// Behind "long", where a floating type may stand too.
+fn long_number(tokens: &[u32], tree: &mut [u32], start: Reading, s: Reading) -> Reading
+    requires { ⌜ Short (now tokens) ⌝ }
+    ensures { λ r. ⌜ FlatWithin (now (tokens .entry)) start long-number (s, now (tree .entry)) (r, now (tree .exit)) ⌝ }
+{
+    let next = next_kind(tokens, s);
+    match next {
+        kind::DOUBLE => {
+            let t = take(tokens, s, kind::DOUBLE);
+            close(tree, start, t, 53)
+        }
+        _ => {
+            let t = behind_long(tokens, tree, start, s);
+            let u = close(tree, start, t, 55);
+            close(tree, start, u, 54)
+        }
+    }
+}
+
+// An integer or floating type, where a rule begins: `s` is its beginning.
+pub fn number_type(tokens: &[u32], tree: &mut [u32], s: Reading) -> Reading
+    requires { ⌜ Short (now tokens) ⌝ }
+    ensures { λ r. ⌜ FlatWithin (now (tokens .entry)) s number-type (s, now (tree .entry)) (r, now (tree .exit)) ⌝ }
+{
+    let next = next_kind(tokens, s);
+    match next {
+        kind::LONG => {
+            let t = take(tokens, s, kind::LONG);
+            long_number(tokens, tree, s, t)
+        }
+        kind::FLOAT => {
+            let t = take(tokens, s, kind::FLOAT);
+            close(tree, s, t, 53)
+        }
+        kind::DOUBLE => {
+            let t = take(tokens, s, kind::DOUBLE);
+            close(tree, s, t, 53)
+        }
+        kind::SHORT => short_number(tokens, tree, s),
+        _ => {
+            let t = unsigned_int(tokens, tree, s);
+            close(tree, s, t, 54)
+        }
+    }
+}
+
+// "short", where a rule begins.
+fn short_number(tokens: &[u32], tree: &mut [u32], s: Reading) -> Reading
+    requires { ⌜ Short (now tokens) ⌝ }
+    ensures { λ r. ⌜ FlatWithin (now (tokens .entry)) s (seq (token 51) (seq (wrap 56) (seq (wrap 55) (wrap 54)))) (s, now (tree .entry)) (r, now (tree .exit)) ⌝ }
+{
+    let t = take(tokens, s, kind::SHORT);
+    let u = close(tree, s, t, 56);
+    let v = close(tree, s, u, 55);
+    close(tree, s, v, 54)
+}
+
+// (46) base_type_spec
+pub fn base_type_spec(tokens: &[u32], tree: &mut [u32], s: Reading) -> Reading
+    requires { ⌜ Short (now tokens) ⌝ }
+    ensures { λ r. ⌜ Flat (now (tokens .entry)) (call 46) (s, now (tree .entry)) (r, now (tree .exit)) ⌝ }
+{
+    let next = next_kind(tokens, s);
+    match next {
+        kind::LONG | kind::FLOAT | kind::DOUBLE | kind::SHORT | kind::UNSIGNED => {
+            let b = enter(s);
+            let t = number_type(tokens, tree, b);
+            leave(tree, s, t, 46)
+        }
+        kind::CHAR => word(tokens, tree, s, kind::CHAR, 63),
+        kind::WCHAR => word(tokens, tree, s, kind::WCHAR, 64),
+        kind::BOOLEAN => word(tokens, tree, s, kind::BOOLEAN, 65),
+        kind::OCTET => word(tokens, tree, s, kind::OCTET, 66),
+        kind::ANY => word(tokens, tree, s, kind::ANY, 67),
+        kind::OBJECT => word(tokens, tree, s, kind::OBJECT, 68),
+        _ => word(tokens, tree, s, kind::VALUE_BASE, 98),
+    }
+}
+
+// (40) boolean_literal
+fn boolean_literal(tokens: &[u32], tree: &mut [u32], s: Reading) -> Reading
+    requires { ⌜ Short (now tokens) ⌝ }
+    ensures { λ r. ⌜ Flat (now (tokens .entry)) (call 40) (s, now (tree .entry)) (r, now (tree .exit)) ⌝ }
+{
+    let b = enter(s);
+    let next = next_kind(tokens, b);
+    match next {
+        kind::TRUE => {
+            let t = take(tokens, b, kind::TRUE);
+            leave(tree, s, t, 40)
+        }
+        _ => {
+            let t = take(tokens, b, kind::FALSE);
+            leave(tree, s, t, 40)
+        }
+    }
+}
+
+// (39) literal: kinds 2 to 8 are those other than boolean.
+pub fn literal(tokens: &[u32], tree: &mut [u32], s: Reading) -> Reading
+    requires { ⌜ Short (now tokens) ⌝ }
+    ensures { λ r. ⌜ Flat (now (tokens .entry)) (call 39) (s, now (tree .entry)) (r, now (tree .exit)) ⌝ }
+{
+    let next = next_kind(tokens, s);
+    if next < kind::INTEGER {
+        return boolean_literal(tokens, tree, s);
+    }
+    if kind::WIDE_STRING_LITERAL < next {
+        return boolean_literal(tokens, tree, s);
+    }
+    let b = enter(s);
+    let t = take(tokens, b, next);
+    leave(tree, s, t, 39)
+}
