@@ -106,13 +106,13 @@ unfoldable pub uses : (a b : String) → Bool
 unfolding elem place names published rules-in right-side idl
 uses a b = elem (place b (names published)) (rules-in (right-side idl (place a (names published))))
 
--- "Errors other readers have made": shift and addition in one rank or turned round; sequences as parameter or
--- result types; two signs; a forward interface with a base list
+-- "Errors other readers have made": shift and addition in one rank, or shift above addition; sequences taken as
+-- parameter or result types; two signs; a forward interface with a base list
 pub errors-avoided :
-    T (uses "and_expr" "shift_expr" && (uses "shift_expr" "add_expr" && uses "add_expr" "mult_expr")) ×
-    T (not (uses "add_expr" "shift_expr") && not (uses "param_type_spec" "sequence_type")) ×
-    T (not (uses "param_type_spec" "template_type_spec") && not (uses "unary_expr" "unary_expr")) ×
-    T (not (uses "primary_expr" "unary_expr") && not (uses "forward_dcl" "interface_inheritance_spec"))
+    T (uses "shift_expr" "add_expr" && not (uses "add_expr" "shift_expr")) ×
+    T (not (uses "param_type_spec" "sequence_type") && not (uses "param_type_spec" "template_type_spec")) ×
+    T (not (uses "unary_expr" "unary_expr") && not (uses "primary_expr" "unary_expr")) ×
+    T (not (uses "forward_dcl" "interface_inheritance_spec"))
 unfolding uses
 errors-avoided = (tt, tt, tt, tt)
 
