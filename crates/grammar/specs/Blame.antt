@@ -19,6 +19,8 @@ pub record Begins (E : Edition) (ks : List ℕ) (q : ℕ) : Type 0 where
   pub long : q ≤ length whole
   pub starts : (k : ℕ) → k < q → kind-at whole k ≡ kind-at ks k
 
+-- q is a token of ks, or the end: the tokens before it begin some list that is derived, with it they don't,
+-- and ks itself is not derived, which says something at the end alone
 pub record Blame (E : Edition) (ks : List ℕ) (q : ℕ) : Type 0 where
   pub within : q ≤ length ks
   pub viable : Begins E ks q

@@ -5,6 +5,9 @@ use mathlib.Core.Path.{_≡_}
 use lib.Dec.{T}
 use Rattle.grammar.specs.Forest.{Forest, end, leaf, node, join}
 
+-- token k reads a token of kind k; group o b c reads a mark, then b one level deeper, then the closing mark;
+-- call n follows the plan of rule n in a frame of its own; wrap r makes a node of rule r; then one plan after
+-- the other, either of two, nothing, and zero or more
 pub data Plan : Type 0 where
   token : ℕ → Plan
   group : ℕ → Plan → ℕ → Plan

@@ -12,6 +12,7 @@ use Rattle.prediction.specs.Plan.{plan-group, plan-call, plan-wrap, plan
 use Rattle.prediction.specs.Plan.{plan-none, plan-more}
 use Rattle.prediction.specs.Typing.{Table, null, first}
 
+-- done at a place with a forest, blamed at a place, or stopped for depth at an opening mark
 pub data Outcome : Type 0 where
   done : ℕ → Forest → Outcome
   blame : ℕ → Outcome
@@ -34,6 +35,7 @@ goes t a b k = elem k (first t a) || (not (elem k (first t b)) && null t a)
 unfoldable pub turns : Table → Plan → ℕ → Bool
 turns t b k = elem k (first t b) || null t b
 
+-- by the table t, on the kinds s with d levels of depth left, the plan from place i with the forest f has the outcome x
 pub data Runs (t : Table) (s : ℕ → ℕ) : ℕ → Plan → ℕ → Forest → Outcome → Type 0 where
   run-token : {d k i : ℕ} {f : Forest} → s i ≡ k → Runs t s d (token k) i f (done (suc i) (leaf f k))
   run-miss : {d k i : ℕ} {f : Forest} → (s i ≡ k → ⊥) → Runs t s d (token k) i f (blame i)
