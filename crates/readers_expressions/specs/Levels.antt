@@ -1,9 +1,13 @@
--- The levels of operators, rules 30 to 35: kinds and rules by number, as in paper 01 and 000.
+-- The operators, rule 37 and the levels of rules 30 to 35: kinds and rules by number, as in paper 01 and 000.
 -- Assumes nothing: these are definitions.
 use Prim.Native.Nat.{ℕ, _+_, _-_}
 use mathlib.Core.List.{List, [], _∷_}
 use lib.ListN.{getD}
 use Rattle.prediction.specs.Plan.{Plan, token, call, wrap, seq, alt, skip}
+
+-- the unary operators
+unfoldable pub signs : List ℕ
+signs = 83 ∷ 82 ∷ 87 ∷ []
 
 -- the operators of level n
 unfoldable pub operators : ℕ → List ℕ
