@@ -1,24 +1,17 @@
 -- What a call answers and what its tables hold afterwards: paper 01, "What the reader says" and "The two tables".
 -- Each is a function of the verdict. Assumes nothing: these are definitions.
-use Prim.Native.Nat.{ℕ, _*_}
-use mathlib.Core.Path.{_≡_}
-use mathlib.Core.Bool.{Bool, true, false}
-use mathlib.Core.List.{List, map, _++_}
-use lib.ListN.{length, getD, drop}
-use Rattle.grammar.specs.Rule.{Edition}
-use Rattle.tables.specs.Tables.{capacity, row, zeroed, token-width, node-width}
+use Prim.Native.Nat.{ℕ}
+use mathlib.Core.List.{List, map}
+use lib.ListN.{length, getD}
+use Rattle.tables.specs.Tables.{front, zeroed, token-width, node-width}
 use Rattle.replies.specs.declared.Reply.{Reply}
 use Rattle.replies.specs.Replies as replies
-use Rattle.meaning.specs.Sense.{Sense, Means, TextSense, TextMeans, kind, first}
-use Rattle.meaning.specs.Verdict.{Verdict, grammar, deep, full, accepted, verdict, TextVerdict, fault, full-tokens, judgement, text-verdict}
+use Rattle.meaning.specs.Sense.{first}
+use Rattle.meaning.specs.Verdict.{Verdict, grammar, deep, full, accepted, TextVerdict, fault, full-tokens, judgement}
 
 -- the place of token q: its first byte, or the text's length past the last token
 abbrev pub place : (text : ℕ) → (tokens : List (List ℕ)) → ℕ → ℕ
 place text ts q = getD (map first ts) q text
-
--- the records at the front of a table; "numbers after the last record are unchanged"
-abbrev pub front : (width : ℕ) → List (List ℕ) → List ℕ → List ℕ
-front width rs table = row rs ++ drop (width * length rs) table
 
 -- the tree part's reply: the paper's row for each verdict
 unfoldable pub tree-reply : (text : ℕ) → (tokens : List (List ℕ)) → Verdict → Reply

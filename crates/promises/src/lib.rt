@@ -1,0 +1,1 @@
+// What is promised: one page of theorems, specs/Main.antt. No code.
