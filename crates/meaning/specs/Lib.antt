@@ -4,3 +4,4 @@ pub mod Verdict
 pub mod Larger
 pub mod Answer
 pub mod Calls
+pub mod Laws

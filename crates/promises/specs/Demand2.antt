@@ -2,11 +2,10 @@
 -- By the cases of the verdict for the one meaning of the text.
 use Prim.Native.Nat.{ℕ, _≤_}
 use mathlib.Core.Path.{_≡_, refl, ap, sym, _∙_}
-use mathlib.Core.Bool.{Bool, true, false, cond}
+use mathlib.Core.Bool.{true}
 use mathlib.Core.List.{List, map}
 use native.Mathlib.Omega.{arith}
 use borrow.Author.Tests.{le-ltb}
-use lib.Dec.{eqb, ltb}
 use lib.ListN.{length, length-map}
 use Rattle.grammar.specs.Blame.{Blame}
 use Rattle.grammar.specs.Depth.{Within}
@@ -25,6 +24,7 @@ use Rattle.meaning.specs.Verdict as verdict
 use Rattle.meaning.specs.Verdict.{Verdict, TextVerdict, fault, full-tokens, judgement, text-verdict}
 use Rattle.meaning.specs.Answer.{place, tree-reply, text-reply, tokens-kept, tree-after, text-tokens-after, text-tree-after}
 use Rattle.meaning.specs.Calls.{Answered}
+use Rattle.meaning.specs.Laws.{fault-range}
 use Rattle.prediction.specs.IdlChecked.{idl-checked}
 use Rattle.verdicts.specs.OneMeaning.{some-text-sense}
 use Rattle.promises.specs.Soundness.{SoundTree, Sound, sound}
@@ -48,24 +48,11 @@ pub record Blamed (text : List ℕ) (r : Reply) : Type 0 where
   pub blame : Blame idl (map kind list) token
   pub place-named : r .place ≡ place (length text) list token
 
--- a fault is neither an acceptance nor a grammar refusal
-fault-other : (number place : ℕ) → (rows.fault number place .number ≡ 0 → ⊥) × (rows.fault number place .number ≡ 7 → ⊥)
-fault-other number place = go (eqb number 2) (eqb number 3) (eqb number 4)
-  where
-    row-of : Bool → Bool → Bool → Reply
-    row-of x y z = cond x (rows.no-lexeme place) (cond y (rows.left-open place) (cond z (rows.bad-literal place) (rows.other-case place)))
-
-    go : (x y z : Bool) → (row-of x y z .number ≡ 0 → ⊥) × (row-of x y z .number ≡ 7 → ⊥)
-    go true y z = (λ e. omega arith, λ e. omega arith)
-    go false true z = (λ e. omega arith, λ e. omega arith)
-    go false false true = (λ e. omega arith, λ e. omega arith)
-    go false false false = (λ e. omega arith, λ e. omega arith)
-
 module _ (text table tree : List ℕ) where
   acceptance-says : (v : TextVerdict) → Sound text v → text-reply (length text) v .number ≡ 0 →
       Accepted text table tree (text-reply (length text) v) (text-tokens-after v table) (text-tree-after v tree)
   unfolding Sound SoundTree text-reply tree-reply text-tokens-after tokens-kept text-tree-after tree-after
-  acceptance-says (fault number place) s z = absurd (fault-other number place .0 z)
+  acceptance-says (fault number place) s z = absurd (omega (arith, fault-range number place .0))
   acceptance-says (full-tokens t) s z = absurd (omega arith)
   acceptance-says (judgement ts (verdict.grammar q)) s z = absurd (omega arith)
   acceptance-says (judgement ts (verdict.deep p)) s z = absurd (omega arith)
@@ -85,7 +72,7 @@ module _ (text table tree : List ℕ) where
 
   blame-says : (v : TextVerdict) → Sound text v → text-reply (length text) v .number ≡ 7 → Blamed text (text-reply (length text) v)
   unfolding Sound SoundTree text-reply tree-reply
-  blame-says (fault number place) s z = absurd (fault-other number place .1 z)
+  blame-says (fault number place) s z = absurd (omega (arith, fault-range number place .1))
   blame-says (full-tokens t) s z = absurd (omega arith)
   blame-says (judgement ts (verdict.grammar q)) s z = record { list = ts; token = q; splits = s .0; blame = s .1; place-named = refl }
   blame-says (judgement ts (verdict.deep p)) s z = absurd (omega arith)

@@ -3,17 +3,15 @@
 use Prim.Native.Nat.{ℕ, _+_, _*_, _≤_, _<_}
 use mathlib.Core.Path.{_≡_, refl, ap, sym, _∙_, subst}
 use mathlib.Core.Logic.{_⊎_, inl, inr}
-use mathlib.Core.Bool.{Bool, true, false, cond}
+use mathlib.Core.Bool.{true}
 use mathlib.Core.List.{List}
 use native.Mathlib.Omega.{arith}
 use native.Mathlib.Nat.{mul-zero, mul-suc}
-use lib.Dec.{eqb}
 use lib.ListN.{length, take, length-map, length-append}
 use lib.Seq.{take-at}
 use Rattle.grammar.specs.Idl.{idl}
 use Rattle.limits.specs.Limits.{good-call}
 use Rattle.replies.specs.declared.Reply.{Reply}
-use Rattle.replies.specs.Replies as rows
 use Rattle.tables.specs.Tables.{capacity, row, front, Records, none, more, token-width, node-width}
 use Rattle.text.specs.Tokens.{tokens, tokens-of}
 use Rattle.tokens.proofs.Order.{tokens-records}
@@ -22,6 +20,7 @@ use Rattle.meaning.specs.Verdict as verdict
 use Rattle.meaning.specs.Verdict.{Verdict, TextVerdict, fault, full-tokens, judgement, text-verdict}
 use Rattle.meaning.specs.Answer.{place, tree-reply, text-reply, tokens-kept, tree-after, text-tokens-after, text-tree-after}
 use Rattle.meaning.specs.Calls.{Answered}
+use Rattle.meaning.specs.Laws.{fault-range}
 use Rattle.meaning.specs.Larger.{Follows, TextFollows, text-verdict-follows}
 use Rattle.prediction.specs.IdlChecked.{idl-checked}
 use Rattle.verdicts.specs.OneMeaning.{some-text-sense}
@@ -45,19 +44,6 @@ pub record Kept (token-room′ tree-room′ : ℕ) (r r′ : Reply) (tokens toke
   pub tree-table : r .number ≡ 9 → (tree-room′ < r .records → r′ ≡ r) × (r .records ≤ tree-room′ → r′ .number ≡ 0)
   -- "a depth refusal's place, and any before it, is never blamed later"
   pub depth : r .number ≡ 8 → Blames (r′ .number) → r .place < r′ .place
-
--- a fault has a number from 2 to 5
-fault-range : (number place : ℕ) → (2 ≤ rows.fault number place .number) × (rows.fault number place .number ≤ 5)
-fault-range number place = go (eqb number 2) (eqb number 3) (eqb number 4)
-  where
-    row-of : Bool → Bool → Bool → Reply
-    row-of x y z = cond x (rows.no-lexeme place) (cond y (rows.left-open place) (cond z (rows.bad-literal place) (rows.other-case place)))
-
-    go : (x y z : Bool) → (2 ≤ row-of x y z .number) × (row-of x y z .number ≤ 5)
-    go true y z = (omega arith, omega arith)
-    go false true z = (omega arith, omega arith)
-    go false false true = (omega arith, omega arith)
-    go false false false = (omega arith, omega arith)
 
 length-row : (width : ℕ) {rs : List (List ℕ)} → Records width rs → length (row rs) ≡ width * length rs
 unfolding row

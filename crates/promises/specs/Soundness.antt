@@ -3,17 +3,18 @@
 use Prim.Native.Nat.{ℕ}
 use mathlib.Core.Path.{_≡_, refl, sym, subst}
 use mathlib.Core.Bool.{Bool, true, false, cond}
-use mathlib.Core.List.{List, [], _∷_, map}
+use mathlib.Core.List.{List, map}
 use lib.Dec.{ltb}
 use lib.ListN.{length}
 use Rattle.grammar.specs.Blame.{Blame}
 use Rattle.grammar.specs.Derivation.{Derivation}
 use Rattle.grammar.specs.Forest.{Forest}
 use Rattle.grammar.specs.Idl.{idl}
-use Rattle.grammar.specs.Record.{TreeRecord, tree-record, records}
-use Rattle.tables.specs.Tables.{Records, none, more, node-width}
+use Rattle.grammar.specs.Record.{records}
+use Rattle.tables.specs.Tables.{Records, node-width}
 use Rattle.text.specs.Tokens.{tokens, tokens-of}
-use Rattle.meaning.specs.Sense.{Sense, Means, means-blame, means-tree, TextSense, TextMeans, means-fault, means-tokens, kind, numbers, tree-records}
+use Rattle.meaning.specs.Sense.{Sense, Means, means-blame, means-tree, TextSense, TextMeans, means-fault, means-tokens, kind, tree-records}
+use Rattle.meaning.specs.Laws.{four-wide}
 use Rattle.meaning.specs.Verdict as verdict
 use Rattle.meaning.specs.Verdict.{Verdict, TextVerdict, fault, full-tokens, judgement, text-verdict}
 
@@ -68,10 +69,6 @@ sound text setting token-room tree-room s (means-tokens {ts = ts} {sense = x} e 
     go : (b : Bool) → Sound text (cond b (full-tokens (length ts)) (judgement ts v))
     go true = tt
     go false = (e, tree-sound setting tree-room ts x m)
-
-four-wide : (rs : List TreeRecord) → Records node-width (map numbers rs)
-four-wide [] = none
-four-wide (tree-record a b c d ∷ rs) = more refl (four-wide rs)
 
 -- each tree record has four numbers
 pub tree-wide : {ts rs : List (List ℕ)} → Tree ts rs → Records node-width rs

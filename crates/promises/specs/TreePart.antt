@@ -60,5 +60,7 @@ module _ (most deepest : ℕ) (tokens : List ℕ) (count text : ℕ) {tree₁ tr
         said-first = x .0;
         said-second = y .0;
         follows = f;
-        records-stay = λ z. rw (x .0, x .1, y .1) (stay text k₂ ts tree₁ tree₂ v v′ (tree-sound setting₁ k₁ ts (s .0) (s .1)) f (sym (ap (λ (q : Reply). q .number) (x .0)) ∙ z));
+        records-stay = λ z.
+            let said = sym (ap (λ (q : Reply). q .number) (x .0)) ∙ z in
+            rw (x .0, x .1, y .1) (stay text k₂ ts tree₁ tree₂ v v′ (tree-sound setting₁ k₁ ts (s .0) (s .1)) f said);
       }
