@@ -21,9 +21,12 @@ behind-unsigned = alt (seq (token 51) (wrap 60)) (seq (token 40) (alt (seq (toke
 abbrev pub long-number : Plan
 long-number = alt (seq (token 30) (wrap 53)) (seq behind-long (seq (wrap 55) (wrap 54)))
 
+abbrev pub short-number : Plan
+short-number = seq (token 51) (seq (wrap 56) (seq (wrap 55) (wrap 54)))
+
 abbrev pub number-type : Plan
 number-type =
     alt (seq (token 40) long-number)
     (alt (seq (token 35) (wrap 53))
     (alt (seq (token 30) (wrap 53))
-    (alt (seq (token 51) (seq (wrap 56) (seq (wrap 55) (wrap 54)))) (seq (call 59) (wrap 54)))))
+    (alt short-number (seq (call 59) (wrap 54)))))

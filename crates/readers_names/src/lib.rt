@@ -2,7 +2,7 @@
 ghost use Rattle.prediction.specs.Plan.{call, seq, many, token, wrap};
 ghost use Rattle.readers_core.specs.Reading.{Short, Takes, Flat, FlatWithin, FlatFollows};
 ghost use Rattle.readers_names.specs.Plans.{first-name, further-name, behind-long, behind-unsigned, long-number};
-ghost use Rattle.readers_names.specs.Plans.{number-type};
+ghost use Rattle.readers_names.specs.Plans.{short-number, number-type};
 ghost use Prim.Native.Nat.{_<_};
 use readers_core::Reading;
 use readers_core::close;
@@ -191,7 +191,7 @@ pub fn number_type(tokens: &[u32], tree: &mut [u32], s: Reading) -> Reading
 // "short", where a rule begins.
 fn short_number(tokens: &[u32], tree: &mut [u32], s: Reading) -> Reading
     requires { ⌜ Short (now tokens) ⌝ }
-    ensures { λ r. ⌜ FlatWithin (now (tokens .entry)) s (seq (token 51) (seq (wrap 56) (seq (wrap 55) (wrap 54)))) (s, now (tree .entry)) (r, now (tree .exit)) ⌝ }
+    ensures { λ r. ⌜ FlatWithin (now (tokens .entry)) s short-number (s, now (tree .entry)) (r, now (tree .exit)) ⌝ }
 {
     let t = take(tokens, s, kind::SHORT);
     let u = close(tree, s, t, 56);

@@ -8,6 +8,7 @@ use Rattle.readers_core.proofs.Chain.{passed-on, single}
 use Rattle.readers_core.proofs.Choosing.{Knows, among, choose, except}
 use Rattle.readers_core.proofs.Frames.{frame-on, from-start}
 use Rattle.readers_core.proofs.Sequence.{_▸_}
+use Rattle.readers_names.specs.Plans.{number-type}
 use borrow.Author.Needs.{needs}
 use mathlib.Core.List.{[], _∷_}
 use mathlib.Core.Path.{refl}
@@ -16,86 +17,96 @@ use Rattle.readers_names.proofs.base_type_spec.Tie as tie
 
 returns : tie.Need-returns
 unfolding table round plan-at idl-prediction choose Knows single recorded
-returns c = record {
-  at-any = λ d. frame-on 46 (among (30 ∷ 35 ∷ 40 ∷ 51 ∷ 59 ∷ []))
-      (c .before .before .before .before .before .before .before .before .before .before .next-kind .ensures)
-      (c .before .before .before .before .before .before .before .before .before .match .keys1)
-      (c .before .before .before .before .before .before .before .before .enter .ensures)
-      (from-start (c .before .before .before .before .before .before .before .before .enter .ensures)
-      (c .before .before .before .before .before .before .number-type .ensures .at-any _) ▸
-      (c .before .before .leave .ensures .closes .wraps _ _)) (c .before .before .leave .ensures .joins);
-}
+returns c =
+    let next-kind = c .before .before .before .before .before .before .before .before .before .before .next-kind in
+    let match-on = c .before .before .before .before .before .before .before .before .before .match in
+    let enter = c .before .before .before .before .before .before .before .before .enter in
+    let number-type = c .before .before .before .before .before .before .number-type in
+    let leave = c .before .before .leave in
+    record {
+      at-any = λ d. frame-on 46 (among (30 ∷ 35 ∷ 40 ∷ 51 ∷ 59 ∷ [])) (next-kind .ensures) (match-on .keys1)
+          (enter .ensures)
+          (from-start (enter .ensures) (number-type .ensures .at-any _) ▸ (leave .ensures .closes .wraps _ _))
+          (leave .ensures .joins);
+    }
 
 returns-2 : tie.Need-returns-2
 unfolding table round plan-at idl-prediction choose Knows single recorded
 returns-2 c =
+    let next-kind = c .before .before .before .before .before .next-kind in
+    let match-on = c .before .before .before .before .match in
+    let word = c .before .before .word in
     record {
-      at-any =
-          λ d. passed-on 46 (among (25 ∷ [])) (c .before .before .before .before .before .next-kind .ensures)
-          (c .before .before .before .before .match .keys2) refl tt
-          ((c .before .before .word .ensures .reads) refl .at-any d);
+      at-any = λ d. passed-on 46 (among (25 ∷ [])) (next-kind .ensures) (match-on .keys2) refl tt
+          ((word .ensures .reads) refl .at-any d);
     }
 
 returns-3 : tie.Need-returns-3
 unfolding table round plan-at idl-prediction choose Knows single recorded
 returns-3 c =
+    let next-kind = c .before .before .before .before .before .next-kind in
+    let match-on = c .before .before .before .before .match in
+    let word2 = c .before .before .word2 in
     record {
-      at-any =
-          λ d. passed-on 46 (among (62 ∷ [])) (c .before .before .before .before .before .next-kind .ensures)
-          (c .before .before .before .before .match .keys3) refl tt
-          ((c .before .before .word2 .ensures .reads) refl .at-any d);
+      at-any = λ d. passed-on 46 (among (62 ∷ [])) (next-kind .ensures) (match-on .keys3) refl tt
+          ((word2 .ensures .reads) refl .at-any d);
     }
 
 returns-4 : tie.Need-returns-4
 unfolding table round plan-at idl-prediction choose Knows single recorded
 returns-4 c =
+    let next-kind = c .before .before .before .before .before .next-kind in
+    let match-on = c .before .before .before .before .match in
+    let word3 = c .before .before .word3 in
     record {
-      at-any =
-          λ d. passed-on 46 (among (23 ∷ [])) (c .before .before .before .before .before .next-kind .ensures)
-          (c .before .before .before .before .match .keys4) refl tt
-          ((c .before .before .word3 .ensures .reads) refl .at-any d);
+      at-any = λ d. passed-on 46 (among (23 ∷ [])) (next-kind .ensures) (match-on .keys4) refl tt
+          ((word3 .ensures .reads) refl .at-any d);
     }
 
 returns-5 : tie.Need-returns-5
 unfolding table round plan-at idl-prediction choose Knows single recorded
 returns-5 c =
+    let next-kind = c .before .before .before .before .before .next-kind in
+    let match-on = c .before .before .before .before .match in
+    let word4 = c .before .before .word4 in
     record {
-      at-any =
-          λ d. passed-on 46 (among (43 ∷ [])) (c .before .before .before .before .before .next-kind .ensures)
-          (c .before .before .before .before .match .keys5) refl tt
-          ((c .before .before .word4 .ensures .reads) refl .at-any d);
+      at-any = λ d. passed-on 46 (among (43 ∷ [])) (next-kind .ensures) (match-on .keys5) refl tt
+          ((word4 .ensures .reads) refl .at-any d);
     }
 
 returns-6 : tie.Need-returns-6
 unfolding table round plan-at idl-prediction choose Knows single recorded
 returns-6 c =
+    let next-kind = c .before .before .before .before .before .next-kind in
+    let match-on = c .before .before .before .before .match in
+    let word5 = c .before .before .word5 in
     record {
-      at-any =
-          λ d. passed-on 46 (among (21 ∷ [])) (c .before .before .before .before .before .next-kind .ensures)
-          (c .before .before .before .before .match .keys6) refl tt
-          ((c .before .before .word5 .ensures .reads) refl .at-any d);
+      at-any = λ d. passed-on 46 (among (21 ∷ [])) (next-kind .ensures) (match-on .keys6) refl tt
+          ((word5 .ensures .reads) refl .at-any d);
     }
 
 returns-7 : tie.Need-returns-7
 unfolding table round plan-at idl-prediction choose Knows single recorded
 returns-7 c =
+    let next-kind = c .before .before .before .before .before .next-kind in
+    let match-on = c .before .before .before .before .match in
+    let word6 = c .before .before .word6 in
     record {
-      at-any =
-          λ d. passed-on 46 (among (17 ∷ [])) (c .before .before .before .before .before .next-kind .ensures)
-          (c .before .before .before .before .match .keys7) refl tt
-          ((c .before .before .word6 .ensures .reads) refl .at-any d);
+      at-any = λ d. passed-on 46 (among (17 ∷ [])) (next-kind .ensures) (match-on .keys7) refl tt
+          ((word6 .ensures .reads) refl .at-any d);
     }
 
 returns-8 : tie.Need-returns-8
 unfolding table round plan-at idl-prediction choose Knows single recorded
 returns-8 c =
+    let next-kind = c .before .before .before .before .before .next-kind in
+    let match-on = c .before .before .before .before .match in
+    let word7 = c .before .before .word7 in
     record {
       at-any =
           λ d. passed-on 46
-          (except ((17 ∷ []) ∷ (21 ∷ []) ∷ (43 ∷ []) ∷ (23 ∷ []) ∷ (62 ∷ []) ∷ (25 ∷ []) ∷ (30 ∷ 35 ∷ 40 ∷ 51 ∷ 59 ∷ []) ∷
-          [])) (c .before .before .before .before .before .next-kind .ensures)
-          (c .before .before .before .before .match .rest) refl tt
-          ((c .before .before .word7 .ensures .reads) refl .at-any d);
+          (except ((17 ∷ []) ∷ (21 ∷ []) ∷ (43 ∷ []) ∷ (23 ∷ []) ∷ (62 ∷ []) ∷ (25 ∷ []) ∷ (30 ∷ 35 ∷ 40 ∷ 51 ∷ 59 ∷ [])
+          ∷ [])) (next-kind .ensures) (match-on .rest) refl tt ((word7 .ensures .reads) refl .at-any d);
     }
 
 pub base-type-spec-spec : {M : Type 1} → statement M

@@ -10,20 +10,26 @@ use Rattle.readers_names.proofs.behind_long.Tie as tie
 
 returns : tie.Need-returns
 unfolding choose Knows
-returns c = record {
-  at-any = λ d. chosen (among (40 ∷ [])) (c .before .before .before .before .before .before .next-kind .ensures)
-      (c .before .before .before .before .before .match .keys1)
-      ((c .before .before .before .before .take .ensures .reads _ _ .in-any _) ▸
-      (c .before .before .close .ensures .wraps _ _));
-}
+returns c =
+    let next-kind = c .before .before .before .before .before .before .next-kind in
+    let match-on = c .before .before .before .before .before .match in
+    let take = c .before .before .before .before .take in
+    let close = c .before .before .close in
+    record {
+      at-any =
+          λ d. chosen (among (40 ∷ [])) (next-kind .ensures) (match-on .keys1)
+          ((take .ensures .reads _ _ .in-any _) ▸ (close .ensures .wraps _ _));
+    }
 
 returns-2 : tie.Need-returns-2
 unfolding choose Knows
 returns-2 c =
+    let next-kind = c .before .before .before .before .before .next-kind in
+    let match-on = c .before .before .before .before .match in
+    let close2 = c .before .before .close2 in
     record {
-      at-any =
-          λ d. chosen (except ((40 ∷ []) ∷ [])) (c .before .before .before .before .before .next-kind .ensures)
-          (c .before .before .before .before .match .rest) (c .before .before .close2 .ensures .wraps _ _);
+      at-any = λ d. chosen (except ((40 ∷ []) ∷ [])) (next-kind .ensures) (match-on .rest)
+          (close2 .ensures .wraps _ _);
     }
 
 pub behind-long-spec : {M : Type 1} → statement M

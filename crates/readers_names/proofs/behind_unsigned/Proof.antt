@@ -10,39 +10,46 @@ use Rattle.readers_names.proofs.behind_unsigned.Tie as tie
 
 returns : tie.Need-returns
 unfolding choose Knows
-returns c = record {
-  at-any = λ d. chosen (among (51 ∷ [])) (c .before .before .before .before .before .before .next-kind .ensures)
-      (c .before .before .before .before .before .if1 .taken)
-      ((c .before .before .before .before .take .ensures .reads _ _ .in-any _) ▸
-      (c .before .before .close .ensures .wraps _ _));
-}
+returns c =
+    let next-kind = c .before .before .before .before .before .before .next-kind in
+    let if1 = c .before .before .before .before .before .if1 in
+    let take = c .before .before .before .before .take in
+    let close = c .before .before .close in
+    record {
+      at-any =
+          λ d. chosen (among (51 ∷ [])) (next-kind .ensures) (if1 .taken)
+          ((take .ensures .reads _ _ .in-any _) ▸ (close .ensures .wraps _ _));
+    }
 
 returns-2 : tie.Need-returns-2
 unfolding choose Knows
 returns-2 c =
+    let next-kind = c .before .before .before .before .before .before .before .before .before .next-kind in
+    let if1 = c .before .before .before .before .before .before .before .before .if1 in
+    let take2 = c .before .before .before .before .before .before .before .take2 in
+    let next-kind2 = c .before .before .before .before .before .before .next-kind2 in
+    let if2 = c .before .before .before .before .before .if2 in
+    let take3 = c .before .before .before .before .take3 in
+    let close2 = c .before .before .close2 in
     record {
-      at-any =
-          λ d. chosen (except ((51 ∷ []) ∷ []))
-          (c .before .before .before .before .before .before .before .before .before .next-kind .ensures)
-          (tt, (c .before .before .before .before .before .before .before .before .if1 .left))
-          ((c .before .before .before .before .before .before .before .take2 .ensures .reads _ _ .in-any _) ▸ chosen
-          (among (40 ∷ [])) (c .before .before .before .before .before .before .next-kind2 .ensures)
-          (c .before .before .before .before .before .if2 .taken)
-          ((c .before .before .before .before .take3 .ensures .reads _ _ .in-any _) ▸
-          (c .before .before .close2 .ensures .wraps _ _)));
+      at-any = λ d. chosen (except ((51 ∷ []) ∷ [])) (next-kind .ensures) (tt, (if1 .left))
+          ((take2 .ensures .reads _ _ .in-any _) ▸ chosen (among (40 ∷ [])) (next-kind2 .ensures) (if2 .taken)
+          ((take3 .ensures .reads _ _ .in-any _) ▸ (close2 .ensures .wraps _ _)));
     }
 
 returns-3 : tie.Need-returns-3
 unfolding choose Knows
 returns-3 c =
+    let next-kind = c .before .before .before .before .before .before .before .before .next-kind in
+    let if1 = c .before .before .before .before .before .before .before .if1 in
+    let take2 = c .before .before .before .before .before .before .take2 in
+    let next-kind2 = c .before .before .before .before .before .next-kind2 in
+    let if2 = c .before .before .before .before .if2 in
+    let close3 = c .before .before .close3 in
     record {
-      at-any =
-          λ d. chosen (except ((51 ∷ []) ∷ []))
-          (c .before .before .before .before .before .before .before .before .next-kind .ensures)
-          (tt, (c .before .before .before .before .before .before .before .if1 .left))
-          ((c .before .before .before .before .before .before .take2 .ensures .reads _ _ .in-any _) ▸ chosen
-          (except ((40 ∷ []) ∷ [])) (c .before .before .before .before .before .next-kind2 .ensures)
-          (tt, (c .before .before .before .before .if2 .left)) (c .before .before .close3 .ensures .wraps _ _));
+      at-any = λ d. chosen (except ((51 ∷ []) ∷ [])) (next-kind .ensures) (tt, (if1 .left))
+          ((take2 .ensures .reads _ _ .in-any _) ▸ chosen (except ((40 ∷ []) ∷ [])) (next-kind2 .ensures)
+          (tt, (if2 .left)) (close3 .ensures .wraps _ _));
     }
 
 pub behind-unsigned-spec : {M : Type 1} → statement M

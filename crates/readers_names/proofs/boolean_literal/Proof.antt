@@ -13,23 +13,32 @@ use Rattle.readers_names.proofs.boolean_literal.Tie as tie
 
 returns : tie.Need-returns
 unfolding table round plan-at idl-prediction choose Knows
-returns c = record {
-  at-any = λ d. frame 40 (c .before .before .before .before .before .before .before .enter .ensures)
-      (chosen (among (18 ∷ [])) (c .before .before .before .before .before .before .next-kind .ensures)
-      (c .before .before .before .before .before .match .keys1)
-      ((c .before .before .before .before .take .ensures .reads _ _ .in-any _) ▸
-      (c .before .before .leave .ensures .closes .wraps _ _))) (c .before .before .leave .ensures .joins);
-}
+returns c =
+    let enter = c .before .before .before .before .before .before .before .enter in
+    let next-kind = c .before .before .before .before .before .before .next-kind in
+    let match-on = c .before .before .before .before .before .match in
+    let take = c .before .before .before .before .take in
+    let leave = c .before .before .leave in
+    record {
+      at-any =
+          λ d. frame 40 (enter .ensures)
+          (chosen (among (18 ∷ [])) (next-kind .ensures) (match-on .keys1)
+          ((take .ensures .reads _ _ .in-any _) ▸ (leave .ensures .closes .wraps _ _))) (leave .ensures .joins);
+    }
 
 returns-2 : tie.Need-returns-2
 unfolding table round plan-at idl-prediction choose Knows
 returns-2 c =
+    let enter = c .before .before .before .before .before .before .before .enter in
+    let next-kind = c .before .before .before .before .before .before .next-kind in
+    let match-on = c .before .before .before .before .before .match in
+    let take2 = c .before .before .before .before .take2 in
+    let leave2 = c .before .before .leave2 in
     record {
-      at-any = λ d. frame 40 (c .before .before .before .before .before .before .before .enter .ensures)
-          (chosen (except ((18 ∷ []) ∷ [])) (c .before .before .before .before .before .before .next-kind .ensures)
-          (c .before .before .before .before .before .match .rest)
-          ((c .before .before .before .before .take2 .ensures .reads _ _ .in-any _) ▸
-          (c .before .before .leave2 .ensures .closes .wraps _ _))) (c .before .before .leave2 .ensures .joins);
+      at-any =
+          λ d. frame 40 (enter .ensures)
+          (chosen (except ((18 ∷ []) ∷ [])) (next-kind .ensures) (match-on .rest)
+          ((take2 .ensures .reads _ _ .in-any _) ▸ (leave2 .ensures .closes .wraps _ _))) (leave2 .ensures .joins);
     }
 
 pub boolean-literal-spec : {M : Type 1} → statement M

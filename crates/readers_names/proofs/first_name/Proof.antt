@@ -14,14 +14,26 @@ returns c =
     let next-kind = c .before .before .before .next-kind in
     let match-on = c .before .before .match in
     let take = c .before .take in
-    record { reads = λ d w. record { in-any = λ start. chosen (among (69 ∷ [])) (next-kind .ensures) (match-on .keys1) ((take .ensures .reads _ _ .in-any _) ▸ (c .take2 .ensures .reads _ _ .in-any _)) } }
+    record {
+      reads =
+          λ d w. record {
+            in-any = λ start. chosen (among (69 ∷ [])) (next-kind .ensures) (match-on .keys1)
+                ((take .ensures .reads _ _ .in-any _) ▸ (c .take2 .ensures .reads _ _ .in-any _));
+          };
+    }
 
 returns-2 : tie.Need-returns-2
 unfolding choose Knows
 returns-2 c =
     let next-kind = c .before .before .next-kind in
     let match-on = c .before .match in
-    record { reads = λ d w. record { in-any = λ start. chosen (except ((69 ∷ []) ∷ [])) (next-kind .ensures) (match-on .rest) (c .take3 .ensures .reads _ _ .in-any _) } }
+    record {
+      reads =
+          λ d w. record {
+            in-any = λ start. chosen (except ((69 ∷ []) ∷ [])) (next-kind .ensures) (match-on .rest)
+                (c .take3 .ensures .reads _ _ .in-any _);
+          };
+    }
 
 pub first-name-spec : {M : Type 1} → statement M
 first-name-spec =

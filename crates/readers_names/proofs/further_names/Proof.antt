@@ -13,7 +13,8 @@ use Rattle.readers_names.proofs.further_names.Statement.{statement}
 use Rattle.readers_names.proofs.further_names.Tie as tie
 
 abbrev Inv-loop : tie.InvT-loop
-Inv-loop tokens tree₀ start t₀ tree t = (length tree ≡ length tree₀) × ((d : ℕ) → Far tokens d start further-name (t₀, tree₀) (t, tree))
+Inv-loop tokens tree₀ start t₀ tree t =
+    (length tree ≡ length tree₀) × ((d : ℕ) → Far tokens d start further-name (t₀, tree₀) (t, tree))
 
 abbrev μ-loop : tie.MeasureT-loop
 μ-loop tokens tree₀ start t₀ tree t = remaining tokens t
@@ -29,7 +30,8 @@ loop-less c =
     let take = c .before .before .before .before .before .take in
     let take2 = c .before .before .before .before .take2 in
     let close = c .before .before .close in
-    falls {d = 0} (among (69 ∷ [])) (next-kind .ensures) (if1 .taken) tt (((take .ensures .reads _ _ .in-any _) ▸ (take2 .ensures .reads _ _ .in-any _)) ▸ (close .ensures .wraps _ _))
+    falls {d = 0} (among (69 ∷ [])) (next-kind .ensures) (if1 .taken) tt
+    (((take .ensures .reads _ _ .in-any _) ▸ (take2 .ensures .reads _ _ .in-any _)) ▸ (close .ensures .wraps _ _))
 
 loop-again : tie.Need-loop-again Inv-loop μ-loop
 unfolding Knows repeats is-over
@@ -39,15 +41,22 @@ loop-again c =
     let if1 = c .before .before .before .before .before .before .if1 in
     let take = c .before .before .before .before .before .take in
     let take2 = c .before .before .before .before .take2 in
-    let close = c .before .before .close in
-    ((close .kept .0) ∙ (loop .inv .0), λ d. far-more (among (69 ∷ [])) (next-kind .ensures) (if1 .taken) tt (((take .ensures .reads _ _ .in-any _) ▸ (take2 .ensures .reads _ _ .in-any _)) ▸ (close .ensures .wraps _ _)) ((loop .inv .1) d))
+    let close = c .before .before .close in (
+      (close .kept .0) ∙ (loop .inv .0),
+      λ d. far-more (among (69 ∷ [])) (next-kind .ensures) (if1 .taken) tt
+          (((take .ensures .reads _ _ .in-any _) ▸ (take2 .ensures .reads _ _ .in-any _)) ▸ (close .ensures .wraps _ _))
+          ((loop .inv .1) d),
+    )
 
 returns : tie.Need-returns Inv-loop μ-loop
 unfolding Knows repeats is-over
 returns c =
     let loop = c .before .before .loop in
     let next-kind = c .before .next-kind in
-    record { at-any = λ d. far-over (except ((69 ∷ []) ∷ [])) (next-kind .ensures) (tt, (c .if1 .left)) tt ((loop .inv .1) d) }
+    record {
+      at-any = λ d. far-over (except ((69 ∷ []) ∷ [])) (next-kind .ensures) (tt, (c .if1 .left)) tt
+          ((loop .inv .1) d);
+    }
 
 pub further-names-spec : {M : Type 1} → statement M
 further-names-spec =

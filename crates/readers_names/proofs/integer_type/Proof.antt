@@ -14,18 +14,24 @@ use Rattle.readers_names.proofs.integer_type.Tie as tie
 
 returns : tie.Need-returns
 unfolding table round plan-at idl-prediction choose Knows single recorded
-returns c = record {
-  at-any = λ d. passed-on 54 (among (59 ∷ [])) (c .before .before .before .before .before .next-kind .ensures)
-      (c .before .before .before .before .match .keys1) refl tt ((c .before .before .unsigned-int .ensures .at-any) d);
-}
+returns c =
+    let next-kind = c .before .before .before .before .before .next-kind in
+    let match-on = c .before .before .before .before .match in
+    let unsigned-int = c .before .before .unsigned-int in
+    record {
+      at-any = λ d. passed-on 54 (among (59 ∷ [])) (next-kind .ensures) (match-on .keys1) refl tt
+          ((unsigned-int .ensures .at-any) d);
+    }
 
 returns-2 : tie.Need-returns-2
 unfolding table round plan-at idl-prediction choose Knows single recorded
 returns-2 c =
+    let next-kind = c .before .before .before .before .before .next-kind in
+    let match-on = c .before .before .before .before .match in
+    let signed-int = c .before .before .signed-int in
     record {
-      at-any =
-          λ d. passed-on 54 (except ((59 ∷ []) ∷ [])) (c .before .before .before .before .before .next-kind .ensures)
-          (c .before .before .before .before .match .rest) refl tt ((c .before .before .signed-int .ensures .at-any) d);
+      at-any = λ d. passed-on 54 (except ((59 ∷ []) ∷ [])) (next-kind .ensures) (match-on .rest) refl tt
+          ((signed-int .ensures .at-any) d);
     }
 
 pub integer-type-spec : {M : Type 1} → statement M

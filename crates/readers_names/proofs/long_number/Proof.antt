@@ -3,6 +3,7 @@
 use Rattle.readers_core.proofs.Choosing.{Knows, among, choose, except}
 use Rattle.readers_core.proofs.Frames.{chosen}
 use Rattle.readers_core.proofs.Sequence.{_▸_}
+use Rattle.readers_names.specs.Plans.{behind-long}
 use borrow.Author.Needs.{needs}
 use mathlib.Core.List.{[], _∷_}
 use Rattle.readers_names.proofs.long_number.Statement.{statement}
@@ -10,20 +11,30 @@ use Rattle.readers_names.proofs.long_number.Tie as tie
 
 returns : tie.Need-returns
 unfolding choose Knows
-returns c = record {
-  at-any = λ d. chosen (among (30 ∷ [])) (c .before .before .before .before .before .before .next-kind .ensures)
-      (c .before .before .before .before .before .match .keys1)
-      ((c .before .before .before .before .take .ensures .reads _ _ .in-any _) ▸
-      (c .before .before .close .ensures .wraps _ _));
-}
+returns c =
+    let next-kind = c .before .before .before .before .before .before .next-kind in
+    let match-on = c .before .before .before .before .before .match in
+    let take = c .before .before .before .before .take in
+    let close = c .before .before .close in
+    record {
+      at-any =
+          λ d. chosen (among (30 ∷ [])) (next-kind .ensures) (match-on .keys1)
+          ((take .ensures .reads _ _ .in-any _) ▸ (close .ensures .wraps _ _));
+    }
 
 returns-2 : tie.Need-returns-2
 unfolding choose Knows
 returns-2 c =
+    let next-kind =
+    c .before .before .before .before .before .before .before .before .before .before .before .before .before .next-kind in
+    let match-on =
+    c .before .before .before .before .before .before .before .before .before .before .before .before .match in
+    let behind-long = c .before .before .before .before .before .before .before .before .before .before .behind-long in
+    let close2 = c .before .before .before .before .before .before .close2 in
+    let close3 = c .before .before .close3 in
     record {
-      at-any =
-          λ d. chosen (except ((30 ∷ []) ∷ []))
-          (c .before .before .before .before .before .before .before .before .before .before .before .before .before .next-kind .ensures) (c .before .before .before .before .before .before .before .before .before .before .before .before .match .rest) ((c .before .before .before .before .before .before .before .before .before .before .behind-long .ensures .at-any _) ▸ (c .before .before .before .before .before .before .close2 .ensures .wraps _ _) ▸ (c .before .before .close3 .ensures .wraps _ _));
+      at-any = λ d. chosen (except ((30 ∷ []) ∷ [])) (next-kind .ensures) (match-on .rest)
+          ((behind-long .ensures .at-any _) ▸ (close2 .ensures .wraps _ _) ▸ (close3 .ensures .wraps _ _));
     }
 
 pub long-number-spec : {M : Type 1} → statement M

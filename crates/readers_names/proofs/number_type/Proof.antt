@@ -6,6 +6,7 @@ use Rattle.prediction.specs.IdlPlans.{idl-prediction}
 use Rattle.readers_core.proofs.Choosing.{Knows, among, choose, except}
 use Rattle.readers_core.proofs.Frames.{chosen}
 use Rattle.readers_core.proofs.Sequence.{_▸_}
+use Rattle.readers_names.specs.Plans.{long-number}
 use borrow.Author.Needs.{needs}
 use mathlib.Core.List.{[], _∷_}
 use Rattle.readers_names.proofs.number_type.Statement.{statement}
@@ -13,52 +14,64 @@ use Rattle.readers_names.proofs.number_type.Tie as tie
 
 returns : tie.Need-returns
 unfolding table round plan-at idl-prediction choose Knows
-returns c = record {
-  at-any = λ d. chosen (among (40 ∷ [])) (c .before .before .before .before .before .before .next-kind .ensures)
-      (c .before .before .before .before .before .match .keys1)
-      ((c .before .before .before .before .take .ensures .reads _ _ .in-any _) ▸
-      (c .before .before .long-number .ensures .at-any _));
-}
+returns c =
+    let next-kind = c .before .before .before .before .before .before .next-kind in
+    let match-on = c .before .before .before .before .before .match in
+    let take = c .before .before .before .before .take in
+    let long-number = c .before .before .long-number in
+    record {
+      at-any =
+          λ d. chosen (among (40 ∷ [])) (next-kind .ensures) (match-on .keys1)
+          ((take .ensures .reads _ _ .in-any _) ▸ (long-number .ensures .at-any _));
+    }
 
 returns-2 : tie.Need-returns-2
 unfolding table round plan-at idl-prediction choose Knows
 returns-2 c =
+    let next-kind = c .before .before .before .before .before .before .next-kind in
+    let match-on = c .before .before .before .before .before .match in
+    let take2 = c .before .before .before .before .take2 in
+    let close = c .before .before .close in
     record {
       at-any =
-          λ d. chosen (among (35 ∷ [])) (c .before .before .before .before .before .before .next-kind .ensures)
-          (c .before .before .before .before .before .match .keys2)
-          ((c .before .before .before .before .take2 .ensures .reads _ _ .in-any _) ▸
-          (c .before .before .close .ensures .wraps _ _));
+          λ d. chosen (among (35 ∷ [])) (next-kind .ensures) (match-on .keys2)
+          ((take2 .ensures .reads _ _ .in-any _) ▸ (close .ensures .wraps _ _));
     }
 
 returns-3 : tie.Need-returns-3
 unfolding table round plan-at idl-prediction choose Knows
 returns-3 c =
+    let next-kind = c .before .before .before .before .before .before .next-kind in
+    let match-on = c .before .before .before .before .before .match in
+    let take3 = c .before .before .before .before .take3 in
+    let close2 = c .before .before .close2 in
     record {
       at-any =
-          λ d. chosen (among (30 ∷ [])) (c .before .before .before .before .before .before .next-kind .ensures)
-          (c .before .before .before .before .before .match .keys3)
-          ((c .before .before .before .before .take3 .ensures .reads _ _ .in-any _) ▸
-          (c .before .before .close2 .ensures .wraps _ _));
+          λ d. chosen (among (30 ∷ [])) (next-kind .ensures) (match-on .keys3)
+          ((take3 .ensures .reads _ _ .in-any _) ▸ (close2 .ensures .wraps _ _));
     }
 
 returns-4 : tie.Need-returns-4
 unfolding table round plan-at idl-prediction choose Knows
 returns-4 c =
+    let next-kind = c .before .before .before .before .before .next-kind in
+    let match-on = c .before .before .before .before .match in
+    let short-number = c .before .before .short-number in
     record {
-      at-any = λ d. chosen (among (51 ∷ [])) (c .before .before .before .before .before .next-kind .ensures)
-          (c .before .before .before .before .match .keys4) (c .before .before .short-number .ensures .at-any _);
+      at-any =
+          λ d. chosen (among (51 ∷ [])) (next-kind .ensures) (match-on .keys4) (short-number .ensures .at-any _);
     }
 
 returns-5 : tie.Need-returns-5
 unfolding table round plan-at idl-prediction choose Knows
 returns-5 c =
+    let next-kind = c .before .before .before .before .before .before .before .before .before .next-kind in
+    let match-on = c .before .before .before .before .before .before .before .before .match in
+    let unsigned-int = c .before .before .before .before .before .before .unsigned-int in
+    let close3 = c .before .before .close3 in
     record {
-      at-any = λ d. chosen (except ((51 ∷ []) ∷ (30 ∷ []) ∷ (35 ∷ []) ∷ (40 ∷ []) ∷ []))
-          (c .before .before .before .before .before .before .before .before .before .next-kind .ensures)
-          (c .before .before .before .before .before .before .before .before .match .rest)
-          ((c .before .before .before .before .before .before .unsigned-int .ensures .at-any _ .in-any _) ▸
-          (c .before .before .close3 .ensures .wraps _ _));
+      at-any = λ d. chosen (except ((51 ∷ []) ∷ (30 ∷ []) ∷ (35 ∷ []) ∷ (40 ∷ []) ∷ [])) (next-kind .ensures)
+          (match-on .rest) ((unsigned-int .ensures .at-any _ .in-any _) ▸ (close3 .ensures .wraps _ _));
     }
 
 pub number-type-spec : {M : Type 1} → statement M

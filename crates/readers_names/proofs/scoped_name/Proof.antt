@@ -14,7 +14,8 @@ unfolding table round plan-at idl-prediction
 returns c = record {
   at-any = λ d. frame 12
       (c .before .before .before .before .before .before .before .before .before .before .enter .ensures)
-      ((c .before .before .before .before .before .before .before .before .before .first-name .ensures .reads _ _ .in-any
+      ((c .before .before .before .before .before .before .before .before .before .first-name .ensures .reads _
+      _ .in-any
       _) ▸ (c .before .before .before .before .before .before .before .close .ensures .wraps _ _) ▸
       (c .before .before .before .further-names .ensures .at-any _)) (c .join .ensures);
 }

@@ -6,10 +6,16 @@ use Rattle.readers_names.proofs.short_number.Statement.{statement}
 use Rattle.readers_names.proofs.short_number.Tie as tie
 
 returns : tie.Need-returns
-returns c = record {
-  at-any = λ d.
-      (c .before .before .before .before .before .before .before .before .before .before .before .before .take .ensures .reads _ _ .in-any _) ▸ (c .before .before .before .before .before .before .before .before .before .before .close .ensures .wraps _ _) ▸ (c .before .before .before .before .before .before .close2 .ensures .wraps _ _) ▸ (c .before .before .close3 .ensures .wraps _ _);
-}
+returns c =
+    let take = c .before .before .before .before .before .before .before .before .before .before .before .before .take
+    in
+    let close = c .before .before .before .before .before .before .before .before .before .before .close in
+    let close2 = c .before .before .before .before .before .before .close2 in
+    let close3 = c .before .before .close3 in
+    record {
+      at-any = λ d. (take .ensures .reads _ _ .in-any _) ▸ (close .ensures .wraps _ _) ▸
+          (close2 .ensures .wraps _ _) ▸ (close3 .ensures .wraps _ _);
+    }
 
 pub short-number-spec : {M : Type 1} → statement M
 short-number-spec =

@@ -6,6 +6,7 @@ use Rattle.prediction.specs.IdlPlans.{idl-prediction}
 use Rattle.readers_core.proofs.Choosing.{Knows, among, choose, except}
 use Rattle.readers_core.proofs.Frames.{chosen, frame}
 use Rattle.readers_core.proofs.Sequence.{_▸_}
+use Rattle.readers_names.specs.Plans.{behind-long}
 use borrow.Author.Needs.{needs}
 use mathlib.Core.List.{[], _∷_}
 use Rattle.readers_names.proofs.signed_int.Statement.{statement}
@@ -13,30 +14,36 @@ use Rattle.readers_names.proofs.signed_int.Tie as tie
 
 returns : tie.Need-returns
 unfolding table round plan-at idl-prediction choose Knows
-returns c = record {
-  at-any = λ d. frame 55
-      (c .before .before .before .before .before .before .before .before .before .before .before .enter .ensures)
-      (chosen (among (51 ∷ []))
-      (c .before .before .before .before .before .before .before .before .before .before .next-kind .ensures)
-      (c .before .before .before .before .before .before .before .before .before .match .keys1)
-      (((c .before .before .before .before .before .before .before .before .take .ensures .reads _ _ .in-any _) ▸
-      (c .before .before .before .before .before .before .close .ensures .wraps _ _)) ▸
-      (c .before .before .leave .ensures .closes .wraps _ _))) (c .before .before .leave .ensures .joins);
-}
+returns c =
+    let enter = c .before .before .before .before .before .before .before .before .before .before .before .enter in
+    let next-kind = c .before .before .before .before .before .before .before .before .before .before .next-kind in
+    let match-on = c .before .before .before .before .before .before .before .before .before .match in
+    let take = c .before .before .before .before .before .before .before .before .take in
+    let close = c .before .before .before .before .before .before .close in
+    let leave = c .before .before .leave in
+    record {
+      at-any =
+          λ d. frame 55 (enter .ensures)
+          (chosen (among (51 ∷ [])) (next-kind .ensures) (match-on .keys1)
+          (((take .ensures .reads _ _ .in-any _) ▸ (close .ensures .wraps _ _)) ▸ (leave .ensures .closes .wraps _ _)))
+          (leave .ensures .joins);
+    }
 
 returns-2 : tie.Need-returns-2
 unfolding table round plan-at idl-prediction choose Knows
 returns-2 c =
+    let enter = c .before .before .before .before .before .before .before .before .before .before .before .enter in
+    let next-kind = c .before .before .before .before .before .before .before .before .before .before .next-kind in
+    let match-on = c .before .before .before .before .before .before .before .before .before .match in
+    let take2 = c .before .before .before .before .before .before .before .before .take2 in
+    let behind-long = c .before .before .before .before .before .before .behind-long in
+    let leave2 = c .before .before .leave2 in
     record {
       at-any =
-          λ d. frame 55
-          (c .before .before .before .before .before .before .before .before .before .before .before .enter .ensures)
-          (chosen (except ((51 ∷ []) ∷ []))
-          (c .before .before .before .before .before .before .before .before .before .before .next-kind .ensures)
-          (c .before .before .before .before .before .before .before .before .before .match .rest)
-          (((c .before .before .before .before .before .before .before .before .take2 .ensures .reads _ _ .in-any _) ▸
-          (c .before .before .before .before .before .before .behind-long .ensures .at-any _)) ▸
-          (c .before .before .leave2 .ensures .closes .wraps _ _))) (c .before .before .leave2 .ensures .joins);
+          λ d. frame 55 (enter .ensures)
+          (chosen (except ((51 ∷ []) ∷ [])) (next-kind .ensures) (match-on .rest)
+          (((take2 .ensures .reads _ _ .in-any _) ▸ (behind-long .ensures .at-any _)) ▸
+          (leave2 .ensures .closes .wraps _ _))) (leave2 .ensures .joins);
     }
 
 pub signed-int-spec : {M : Type 1} → statement M

@@ -5,19 +5,24 @@ use Rattle.prediction.specs.Columns.{plan-at, round}
 use Rattle.prediction.specs.IdlPlans.{idl-prediction}
 use Rattle.readers_core.proofs.Frames.{frame}
 use Rattle.readers_core.proofs.Sequence.{_▸_}
+use Rattle.readers_names.specs.Plans.{behind-unsigned}
 use borrow.Author.Needs.{needs}
 use Rattle.readers_names.proofs.unsigned_int.Statement.{statement}
 use Rattle.readers_names.proofs.unsigned_int.Tie as tie
 
 returns : tie.Need-returns
 unfolding table round plan-at idl-prediction
-returns c = record {
-  at-any = λ d. frame 59
-      (c .before .before .before .before .before .before .before .before .before .enter .ensures)
-      ((c .before .before .before .before .before .before .before .before .take .ensures .reads _ _ .in-any _) ▸
-      (c .before .before .before .before .before .before .behind-unsigned .ensures .at-any _) ▸
-      (c .before .before .leave .ensures .closes .wraps _ _)) (c .before .before .leave .ensures .joins);
-}
+returns c =
+    let enter = c .before .before .before .before .before .before .before .before .before .enter in
+    let take = c .before .before .before .before .before .before .before .before .take in
+    let behind-unsigned = c .before .before .before .before .before .before .behind-unsigned in
+    let leave = c .before .before .leave in
+    record {
+      at-any =
+          λ d. frame 59 (enter .ensures)
+          ((take .ensures .reads _ _ .in-any _) ▸ (behind-unsigned .ensures .at-any _) ▸
+          (leave .ensures .closes .wraps _ _)) (leave .ensures .joins);
+    }
 
 pub unsigned-int-spec : {M : Type 1} → statement M
 unsigned-int-spec =

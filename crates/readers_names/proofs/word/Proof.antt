@@ -7,14 +7,19 @@ use Rattle.readers_names.proofs.word.Statement.{statement}
 use Rattle.readers_names.proofs.word.Tie as tie
 
 returns : tie.Need-returns
-returns c = record {
-  reads = λ q. record {
-    at-any = λ d. frame-by (c .before .before .before .before .before .before .before .before .args .rule) q
-        (c .before .before .before .before .before .enter .ensures)
-        ((c .before .before .before .before .take .ensures .reads _ _ .in-any _) ▸
-        (c .before .before .leave .ensures .closes .wraps _ _)) (c .before .before .leave .ensures .joins);
-  };
-}
+returns c =
+    let args = c .before .before .before .before .before .before .before .before .args in
+    let enter = c .before .before .before .before .before .enter in
+    let take = c .before .before .before .before .take in
+    let leave = c .before .before .leave in
+    record {
+      reads =
+          λ q. record {
+            at-any =
+                λ d. frame-by (args .rule) q (enter .ensures)
+                ((take .ensures .reads _ _ .in-any _) ▸ (leave .ensures .closes .wraps _ _)) (leave .ensures .joins);
+          };
+    }
 
 pub word-spec : {M : Type 1} → statement M
 word-spec =

@@ -1,0 +1,109 @@
+-- `const_type` reads rule 28: a number type in a frame of its own, or another rule, whose node is passed on.
+-- The kind ahead tells which. Assumes nothing.
+use Rattle.grammar.specs.Record.{recorded}
+use Rattle.prediction.specs.Check.{table}
+use Rattle.prediction.specs.Columns.{plan-at, round}
+use Rattle.prediction.specs.IdlPlans.{idl-prediction}
+use Rattle.readers_core.proofs.Chain.{passed-on, single}
+use Rattle.readers_core.proofs.Choosing.{Knows, among, choose, except}
+use Rattle.readers_core.proofs.Frames.{frame-on, from-start}
+use Rattle.readers_core.proofs.Sequence.{_▸_}
+use Rattle.readers_names.specs.Plans.{number-type}
+use borrow.Author.Needs.{needs}
+use mathlib.Core.List.{[], _∷_}
+use mathlib.Core.Path.{refl}
+use Rattle.readers_types.proofs.const_type.Statement.{statement}
+use Rattle.readers_types.proofs.const_type.Tie as tie
+
+returns : tie.Need-returns
+unfolding table round plan-at idl-prediction choose Knows single recorded
+returns c =
+    let next-kind = c .before .before .before .before .before .before .before .before .before .before .next-kind in
+    let match-on = c .before .before .before .before .before .before .before .before .before .match in
+    let enter = c .before .before .before .before .before .before .before .before .enter in
+    let number-type = c .before .before .before .before .before .before .number-type in
+    let leave = c .before .before .leave in
+    frame-on 28 (among (30 ∷ 35 ∷ 40 ∷ 51 ∷ 59 ∷ [])) (next-kind .ensures) (match-on .keys1) (enter .ensures)
+    (from-start (enter .ensures) (number-type .ensures .at-any _) ▸ (leave .ensures .closes .wraps _ _))
+    (leave .ensures .joins)
+
+returns-2 : tie.Need-returns-2
+unfolding table round plan-at idl-prediction choose Knows single recorded
+returns-2 c =
+    let next-kind = c .before .before .before .before .before .next-kind in
+    let match-on = c .before .before .before .before .match in
+    let word = c .before .before .word in
+    passed-on 28 (among (25 ∷ [])) (next-kind .ensures) (match-on .keys2) refl tt
+    ((word .ensures .reads) refl .at-any _)
+
+returns-3 : tie.Need-returns-3
+unfolding table round plan-at idl-prediction choose Knows single recorded
+returns-3 c =
+    let next-kind = c .before .before .before .before .before .next-kind in
+    let match-on = c .before .before .before .before .match in
+    let word2 = c .before .before .word2 in
+    passed-on 28 (among (62 ∷ [])) (next-kind .ensures) (match-on .keys3) refl tt
+    ((word2 .ensures .reads) refl .at-any _)
+
+returns-4 : tie.Need-returns-4
+unfolding table round plan-at idl-prediction choose Knows single recorded
+returns-4 c =
+    let next-kind = c .before .before .before .before .before .next-kind in
+    let match-on = c .before .before .before .before .match in
+    let word3 = c .before .before .word3 in
+    passed-on 28 (among (23 ∷ [])) (next-kind .ensures) (match-on .keys4) refl tt
+    ((word3 .ensures .reads) refl .at-any _)
+
+returns-5 : tie.Need-returns-5
+unfolding table round plan-at idl-prediction choose Knows single recorded
+returns-5 c =
+    let next-kind = c .before .before .before .before .before .next-kind in
+    let match-on = c .before .before .before .before .match in
+    let string-type = c .before .before .string-type in
+    passed-on 28 (among (52 ∷ [])) (next-kind .ensures) (match-on .keys5) refl tt ((string-type .ensures .reads) refl)
+
+returns-6 : tie.Need-returns-6
+unfolding table round plan-at idl-prediction choose Knows single recorded
+returns-6 c =
+    let next-kind = c .before .before .before .before .before .next-kind in
+    let match-on = c .before .before .before .before .match in
+    let string-type2 = c .before .before .string-type2 in
+    passed-on 28 (among (63 ∷ [])) (next-kind .ensures) (match-on .keys6) refl tt ((string-type2 .ensures .reads) refl)
+
+returns-7 : tie.Need-returns-7
+unfolding table round plan-at idl-prediction choose Knows single recorded
+returns-7 c =
+    let next-kind = c .before .before .before .before .before .next-kind in
+    let match-on = c .before .before .before .before .match in
+    let word4 = c .before .before .word4 in
+    passed-on 28 (among (34 ∷ [])) (next-kind .ensures) (match-on .keys7) refl tt
+    ((word4 .ensures .reads) refl .at-any _)
+
+returns-8 : tie.Need-returns-8
+unfolding table round plan-at idl-prediction choose Knows single recorded
+returns-8 c =
+    let next-kind = c .before .before .before .before .before .next-kind in
+    let match-on = c .before .before .before .before .match in
+    let word5 = c .before .before .word5 in
+    passed-on 28 (among (43 ∷ [])) (next-kind .ensures) (match-on .keys8) refl tt
+    ((word5 .ensures .reads) refl .at-any _)
+
+returns-9 : tie.Need-returns-9
+unfolding table round plan-at idl-prediction choose Knows single recorded
+returns-9 c =
+    let next-kind = c .before .before .before .before .before .next-kind in
+    let match-on = c .before .before .before .before .match in
+    let scoped-name = c .before .before .scoped-name in
+    passed-on 28 (except
+    ((43 ∷ []) ∷ (34 ∷ []) ∷ (63 ∷ []) ∷ (52 ∷ []) ∷ (23 ∷ []) ∷ (62 ∷ []) ∷ (25 ∷ []) ∷
+    (30 ∷ 35 ∷ 40 ∷ 51 ∷ 59 ∷ []) ∷ [])) (next-kind .ensures) (match-on .rest) refl tt
+    ((scoped-name .ensures .at-any) _)
+
+pub const-type-spec : {M : Type 1} → statement M
+const-type-spec =
+    tie.close (tie.spec (λ c κs. search needs) (λ c κs. search needs) (λ c κs. search needs)
+    (λ c κs. search needs) (λ c κs. search needs) (λ c κs. search needs) (λ c κs. search needs)
+    (λ c κs. search needs) (λ c κs. search needs) (λ c κs. search needs) (λ c κs. search needs)
+    (λ c κs. search needs) (λ c. search needs) returns (λ c. search needs) returns-2 (λ c. search needs)
+    returns-3 (λ c. search needs) returns-4 (λ c. search needs) returns-5 (λ c. search needs) returns-6
+    (λ c. search needs) returns-7 (λ c. search needs) returns-8 (λ c. search needs) returns-9)

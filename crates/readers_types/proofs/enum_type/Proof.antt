@@ -1,0 +1,28 @@
+-- `enum_type` reads rule 78 in a frame of its own.
+-- Its calls are put together as its plan is. Assumes nothing.
+use Rattle.prediction.specs.Check.{table}
+use Rattle.prediction.specs.Columns.{plan-at, round}
+use Rattle.prediction.specs.IdlPlans.{idl-prediction}
+use Rattle.readers_core.proofs.Frames.{frame}
+use Rattle.readers_core.proofs.Sequence.{_▸_}
+use Rattle.readers_types.specs.Plans.{enumerators}
+use borrow.Author.Needs.{needs}
+use Rattle.readers_types.proofs.enum_type.Statement.{statement}
+use Rattle.readers_types.proofs.enum_type.Tie as tie
+
+returns : tie.Need-returns
+unfolding table round plan-at idl-prediction
+returns c =
+    let enter = c .before .before .before .before .before .before .before .before .before .before .enter in
+    let take = c .before .before .before .before .before .before .before .before .before .take in
+    let take2 = c .before .before .before .before .before .before .before .before .take2 in
+    let enumerators = c .before .before .before .before .before .before .enumerators in
+    let leave = c .before .before .leave in
+    frame 78 (enter .ensures)
+    ((take .ensures .reads _ _ .in-any _) ▸ (take2 .ensures .reads _ _ .in-any _) ▸
+    (enumerators .ensures .in-any _) ▸ (leave .ensures .closes .wraps _ _)) (leave .ensures .joins)
+
+pub enum-type-spec : {M : Type 1} → statement M
+enum-type-spec =
+    tie.close (tie.spec (λ c κs. search needs) (λ c κs. search needs) (λ c κs. search needs)
+    (λ c κs. search needs) (λ c κs. search needs) (λ c. search needs) returns)

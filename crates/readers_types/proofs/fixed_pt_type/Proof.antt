@@ -1,0 +1,27 @@
+-- `fixed_pt_type` reads rule 96 in a frame of its own.
+-- Its calls are put together as its plan is. Assumes nothing.
+use Rattle.prediction.specs.Check.{table}
+use Rattle.prediction.specs.Columns.{plan-at, round}
+use Rattle.prediction.specs.IdlPlans.{idl-prediction}
+use Rattle.readers_core.proofs.Frames.{frame}
+use Rattle.readers_core.proofs.Sequence.{_▸_}
+use Rattle.readers_types.specs.Plans.{fixed-bounds}
+use borrow.Author.Needs.{needs}
+use Rattle.readers_types.proofs.fixed_pt_type.Statement.{statement}
+use Rattle.readers_types.proofs.fixed_pt_type.Tie as tie
+
+returns : tie.Need-returns
+unfolding table round plan-at idl-prediction
+returns c =
+    let enter = c .before .before .before .before .before .before .before .before .before .enter in
+    let take = c .before .before .before .before .before .before .before .before .take in
+    let fixed-bounds = c .before .before .before .before .before .before .fixed-bounds in
+    let leave = c .before .before .leave in
+    frame 96 (enter .ensures)
+    ((take .ensures .reads _ _ .in-any _) ▸ (fixed-bounds .ensures .in-any _) ▸
+    (leave .ensures .closes .wraps _ _)) (leave .ensures .joins)
+
+pub fixed-pt-type-spec : {M : Type 1} → statement M
+fixed-pt-type-spec =
+    tie.close (tie.spec (λ c κs. search needs) (λ c κs. search needs) (λ c κs. search needs)
+    (λ c κs. search needs) (λ c. search needs) returns)

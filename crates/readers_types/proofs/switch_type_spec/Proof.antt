@@ -1,0 +1,64 @@
+-- `switch_type_spec` reads rule 73, which passes another rule's node on.
+-- The kind ahead tells which. Assumes nothing.
+use Rattle.grammar.specs.Record.{recorded}
+use Rattle.prediction.specs.Check.{table}
+use Rattle.prediction.specs.Columns.{plan-at, round}
+use Rattle.prediction.specs.IdlPlans.{idl-prediction}
+use Rattle.readers_core.proofs.Chain.{passed-on, single}
+use Rattle.readers_core.proofs.Choosing.{Knows, among, choose, except}
+use borrow.Author.Needs.{needs}
+use mathlib.Core.List.{[], _∷_}
+use mathlib.Core.Path.{refl}
+use Rattle.readers_types.proofs.switch_type_spec.Statement.{statement}
+use Rattle.readers_types.proofs.switch_type_spec.Tie as tie
+
+returns : tie.Need-returns
+unfolding table round plan-at idl-prediction choose Knows single recorded
+returns c =
+    let next-kind = c .before .before .before .before .before .next-kind in
+    let match-on = c .before .before .before .before .match in
+    let integer-type = c .before .before .integer-type in
+    passed-on 73 (among (40 ∷ 51 ∷ 59 ∷ [])) (next-kind .ensures) (match-on .keys1) refl tt
+    ((integer-type .ensures .at-any) _)
+
+returns-2 : tie.Need-returns-2
+unfolding table round plan-at idl-prediction choose Knows single recorded
+returns-2 c =
+    let next-kind = c .before .before .before .before .before .next-kind in
+    let match-on = c .before .before .before .before .match in
+    let word = c .before .before .word in
+    passed-on 73 (among (25 ∷ [])) (next-kind .ensures) (match-on .keys2) refl tt
+    ((word .ensures .reads) refl .at-any _)
+
+returns-3 : tie.Need-returns-3
+unfolding table round plan-at idl-prediction choose Knows single recorded
+returns-3 c =
+    let next-kind = c .before .before .before .before .before .next-kind in
+    let match-on = c .before .before .before .before .match in
+    let word2 = c .before .before .word2 in
+    passed-on 73 (among (23 ∷ [])) (next-kind .ensures) (match-on .keys3) refl tt
+    ((word2 .ensures .reads) refl .at-any _)
+
+returns-4 : tie.Need-returns-4
+unfolding table round plan-at idl-prediction choose Knows single recorded
+returns-4 c =
+    let next-kind = c .before .before .before .before .before .next-kind in
+    let match-on = c .before .before .before .before .match in
+    let enum-type = c .before .before .enum-type in
+    passed-on 73 (among (31 ∷ [])) (next-kind .ensures) (match-on .keys4) refl tt (enum-type .ensures)
+
+returns-5 : tie.Need-returns-5
+unfolding table round plan-at idl-prediction choose Knows single recorded
+returns-5 c =
+    let next-kind = c .before .before .before .before .before .next-kind in
+    let match-on = c .before .before .before .before .match in
+    let scoped-name = c .before .before .scoped-name in
+    passed-on 73 (except ((31 ∷ []) ∷ (23 ∷ []) ∷ (25 ∷ []) ∷ (40 ∷ 51 ∷ 59 ∷ []) ∷ [])) (next-kind .ensures)
+    (match-on .rest) refl tt ((scoped-name .ensures .at-any) _)
+
+pub switch-type-spec-spec : {M : Type 1} → statement M
+switch-type-spec-spec =
+    tie.close (tie.spec (λ c κs. search needs) (λ c κs. search needs) (λ c κs. search needs)
+    (λ c κs. search needs) (λ c κs. search needs) (λ c κs. search needs) (λ c. search needs) returns
+    (λ c. search needs) returns-2 (λ c. search needs) returns-3 (λ c. search needs) returns-4
+    (λ c. search needs) returns-5)
