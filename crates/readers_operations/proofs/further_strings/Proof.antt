@@ -1,0 +1,60 @@
+-- `further_strings` reads string literals while a comma stands ahead.
+-- The part read so far as a continuation; what is left to read falls. Assumes nothing.
+use Prim.Native.Nat.{ℕ}
+use Rattle.prediction.specs.Plan.{seq, token}
+use Rattle.readers_core.proofs.Choosing.{Knows, among, except, is-over}
+use Rattle.readers_core.proofs.Repetition.{Far, falls, far-here, far-more, far-over, remaining, repeats}
+use Rattle.readers_core.proofs.Sequence.{_▸_}
+use Rattle.readers_core.specs.declared.Reading.{Reading}
+use borrow.Author.Needs.{needs}
+use mathlib.Core.List.{List, [], _∷_}
+use Rattle.readers_operations.proofs.further_strings.Statement.{statement}
+use Rattle.readers_operations.proofs.further_strings.Tie as tie
+
+abbrev Inv-loop : tie.InvT-loop
+Inv-loop tokens t₀ t = (d : ℕ) (w : List ℕ) (start : Reading) → Far tokens d start (seq (token 68) (token 7)) (t₀, w)
+    (t, w)
+
+abbrev μ-loop : tie.MeasureT-loop
+μ-loop tokens t₀ t = remaining tokens t
+
+loop-holds : tie.Need-loop-holds Inv-loop μ-loop
+loop-holds c = λ d w start. far-here
+
+loop-less : tie.Need-loop-less Inv-loop μ-loop
+unfolding Knows repeats is-over
+loop-less c =
+    let loop = c .before .before .before .before .loop in
+    let next-kind = c .before .before .before .next-kind in
+    let if1 = c .before .before .if1 in
+    let take = c .before .take in
+    falls {start = (loop .t)} (among (68 ∷ [])) (next-kind .ensures) (if1 .taken) tt
+    (((take .ensures .reads) 0 [] .in-any _) ▸ ((c .take2 .ensures .reads) 0 [] .in-any _))
+
+loop-again : tie.Need-loop-again Inv-loop μ-loop
+unfolding Knows repeats is-over
+loop-again c =
+    let loop = c .before .before .before .before .loop in
+    let next-kind = c .before .before .before .next-kind in
+    let if1 = c .before .before .if1 in
+    let take = c .before .take in
+    λ d w start. far-more (among (68 ∷ [])) (next-kind .ensures) (if1 .taken) tt
+    ((take .ensures .reads _ _ .in-any _) ▸ (c .take2 .ensures .reads _ _ .in-any _)) ((loop .inv) d w start)
+
+returns : tie.Need-returns Inv-loop μ-loop
+unfolding Knows repeats is-over
+returns c =
+    let loop = c .before .before .loop in
+    let next-kind = c .before .next-kind in
+    record {
+      reads =
+          λ d w. record {
+            in-any = λ start. far-over (except ((68 ∷ []) ∷ [])) (next-kind .ensures) (tt, (c .if1 .left)) tt
+                ((loop .inv) d w start);
+          };
+    }
+
+pub further-strings-spec : {M : Type 1} → statement M
+further-strings-spec =
+    tie.close (tie.spec Inv-loop μ-loop loop-holds (λ c κs. search needs) (λ c κs. search needs)
+    (λ c κs. search needs) loop-less loop-again returns)

@@ -1,0 +1,25 @@
+-- `parameter_dcls` reads rule 90 in a frame of its own.
+-- Its calls are put together as its plan is. Assumes nothing.
+use Rattle.prediction.specs.Check.{table}
+use Rattle.prediction.specs.Columns.{plan-at, round}
+use Rattle.prediction.specs.IdlPlans.{idl-prediction}
+use Rattle.readers_core.proofs.Frames.{frame}
+use Rattle.readers_core.proofs.Sequence.{_▸_}
+use Rattle.readers_operations.specs.Plans.{parameters}
+use borrow.Author.Needs.{needs}
+use Rattle.readers_operations.proofs.parameter_dcls.Statement.{statement}
+use Rattle.readers_operations.proofs.parameter_dcls.Tie as tie
+
+returns : tie.Need-returns
+unfolding table round plan-at idl-prediction
+returns c =
+    let enter = c .before .before .before .before .before .before .before .before .enter in
+    let parameters = c .before .before .before .before .before .before .parameters in
+    let leave = c .before .before .leave in
+    frame 90 (enter .ensures) ((parameters .ensures .in-any _) ▸ (leave .ensures .closes .wraps _ _))
+    (leave .ensures .joins)
+
+pub parameter-dcls-spec : {M : Type 1} → statement M
+parameter-dcls-spec =
+    tie.close (tie.spec (λ c κs. search needs) (λ c κs. search needs) (λ c κs. search needs) (λ c. search needs)
+    returns)

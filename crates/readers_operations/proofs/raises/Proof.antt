@@ -1,0 +1,42 @@
+-- `raises` reads rule 93 in a frame of its own, or nothing.
+-- The kind ahead tells which. Assumes nothing.
+use Rattle.prediction.specs.Check.{table}
+use Rattle.prediction.specs.Columns.{plan-at, round}
+use Rattle.prediction.specs.IdlPlans.{idl-prediction}
+use Rattle.readers_core.proofs.Choosing.{Knows, among, choose, except}
+use Rattle.readers_core.proofs.Frames.{chosen, frame}
+use Rattle.readers_core.proofs.Sequence.{_▸_, skipped}
+use Rattle.readers_operations.specs.Plans.{exceptions}
+use borrow.Author.Needs.{needs}
+use mathlib.Core.List.{[], _∷_}
+use Rattle.readers_operations.proofs.raises.Statement.{statement}
+use Rattle.readers_operations.proofs.raises.Tie as tie
+
+returns : tie.Need-returns
+unfolding table round plan-at idl-prediction choose Knows
+returns c =
+    let next-kind =
+    c .before .before .before .before .before .before .before .before .before .before .before .next-kind in
+    let if1 = c .before .before .before .before .before .before .before .before .before .before .if1 in
+    let enter = c .before .before .before .before .before .before .before .before .before .enter in
+    let take = c .before .before .before .before .before .before .before .before .take in
+    let exceptions = c .before .before .before .before .before .before .exceptions in
+    let leave = c .before .before .leave in
+    record {
+      in-any =
+          λ start. chosen (among (48 ∷ [])) (next-kind .ensures) (if1 .taken)
+          (frame 93 (enter .ensures)
+          ((take .ensures .reads _ _ .in-any _) ▸ (exceptions .ensures .in-any _) ▸ (leave .ensures .closes .wraps _ _))
+          (leave .ensures .joins) .in-any start);
+    }
+
+returns-2 : tie.Need-returns-2
+unfolding table round plan-at idl-prediction choose Knows
+returns-2 c =
+    let next-kind = c .before .next-kind in
+    record { in-any = λ start. chosen (except ((48 ∷ []) ∷ [])) (next-kind .ensures) (tt, (c .if1 .left)) skipped }
+
+pub raises-spec : {M : Type 1} → statement M
+raises-spec =
+    tie.close (tie.spec (λ c κs. search needs) (λ c κs. search needs) (λ c κs. search needs)
+    (λ c κs. search needs) (λ c κs. search needs) (λ c. search needs) returns returns-2)
