@@ -7,13 +7,14 @@ use mathlib.Core.Path.{_≡_}
 use Prim.Native.Char.{code}
 use Prim.Native.Nat.{ℕ}
 use borrow.Author.Tests.{ne-eqb}
+use Rattle.kinds.specs.Kinds as kinds
 use Rattle.text.specs.Blanks.{line-comment, block-comment}
 use Rattle.text.specs.Bytes.{at, run, space, letter, digit}
 use Rattle.text.specs.Lexemes.{lexeme, mark}
 use Rattle.text.specs.Literals.{quote, literal, wide-literal}
 use Rattle.text.specs.Numbers.{number}
 use Rattle.text.specs.Words.{word, escaped-word}
-use Rattle.text.specs.declared.Lexeme.the-variants.{Blank}
+use Rattle.text.specs.declared.Lexeme.the-variants.{Blank, Token, NoLexeme}
 use Rattle.lexemes.specs.Fronts.{slash, wide, underscore}
 
 -- a byte that a class decides: a letter, a digit, or neither
@@ -39,8 +40,8 @@ module _ (bs : List ℕ) where
     unfolding lexeme space
     slash-block f = simp (e, f)
 
-    pub slash-mark : (at bs 1 ≡ slash → ⊥) → (at bs 1 ≡ code "*" → ⊥) → mark bs ≡ lexeme bs
-    unfolding lexeme space quote letter digit
+    pub slash-mark : (at bs 1 ≡ slash → ⊥) → (at bs 1 ≡ code "*" → ⊥) → Token 85 1 ≡ lexeme bs
+    unfolding lexeme space quote letter digit mark kinds.mark
     slash-mark f g = simp (e, ne-eqb (at bs 1) slash f, ne-eqb (at bs 1) (code "*") g)
 
   pub quote-literal : (at bs 0 ≡ code "\"") ⊎ (at bs 0 ≡ code "'") → literal bs ≡ lexeme bs
@@ -62,9 +63,9 @@ module _ (bs : List ℕ) where
     unfolding lexeme space quote letter
     underscore-word f = simp (e, f)
 
-    pub underscore-mark : letter (at bs 1) ≡ false → mark bs ≡ lexeme bs
-    unfolding lexeme space quote letter digit
-    underscore-mark f = simp (e, f)
+    pub underscore-alone : letter (at bs 1) ≡ false → NoLexeme ≡ lexeme bs
+    unfolding lexeme space quote letter digit mark kinds.mark
+    underscore-alone f = simp (e, f)
 
   pub point-number : at bs 0 ≡ code "." → number bs ≡ lexeme bs
   unfolding lexeme space quote letter digit

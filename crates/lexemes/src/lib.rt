@@ -18,6 +18,9 @@ use text::Lexeme;
 use words::escaped_word;
 use words::word;
 
+// The kind of the mark that is one slash.
+const SLASH: u32 = 85;
+
 // A byte that opens a literal; 256, past the end of the text, opens none.
 fn is_quote(b: u32) -> bool
     ensures { λ r. ⌜ r ≡ quote b ⌝ }
@@ -40,7 +43,7 @@ fn slash(bs: &[u8]) -> Lexeme
     if second == 42 {
         return block_comment(bs);
     }
-    mark(bs)
+    Lexeme::Token(SLASH, 1)
 }
 
 // After an L: a wide literal where a quote comes directly, or a word.
@@ -60,12 +63,12 @@ fn underscore(bs: &[u8]) -> Lexeme
     ensures { λ r. ⌜ r ≡ lexemes.lexeme (now (bs .entry)) ⌝ }
 {
     if bs.len() < 2 {
-        return mark(bs);
+        return Lexeme::NoLexeme;
     }
     if text::is_letter(bs[1]) {
         return escaped_word(bs);
     }
-    mark(bs)
+    Lexeme::NoLexeme
 }
 
 // The lexeme at the front. `words` is the table of keywords, which the caller makes once.

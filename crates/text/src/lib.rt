@@ -89,11 +89,15 @@ pub fn is_hexadecimal(b: u8) -> bool
     }
 }
 
+// Small letters, of which words mostly consist, are decided first.
 pub fn is_wordly(b: u8) -> bool
     ensures { λ r. ⌜ r ≡ wordly b ⌝ }
 {
+    if b'a' <= b {
+        return b <= b'z';
+    }
     match b {
-        b'0'..=b'9' | b'A'..=b'Z' | b'_' | b'a'..=b'z' => true,
+        b'0'..=b'9' | b'A'..=b'Z' | b'_' => true,
         _ => false,
     }
 }

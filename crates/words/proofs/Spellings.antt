@@ -1,7 +1,7 @@
 -- Spellings compared: the same, the same but for case, or near, byte by byte.
 -- By induction on the two spellings. Assumes nothing.
 use mathlib.Core.Path.{_≡_, refl, ap, sym, _∙_}
-use mathlib.Core.Bool.{Bool, true, false, _&&_, cond, false≢true, and-eq-true-iff, and-assoc, and-true}
+use mathlib.Core.Bool.{Bool, true, false, _&&_, false≢true, and-eq-true-iff}
 use mathlib.Core.List.{List, [], _∷_}
 use Prim.Native.Nat.{ℕ, suc, _+_, _≤_, _<_}
 use native.Mathlib.Numerals.{add-one}
@@ -13,8 +13,7 @@ use lib.Seq.{drop-cons}
 use Rattle.kinds.specs.Kinds.{same}
 use Rattle.text.specs.Bytes.{at}
 use Rattle.text.specs.Words.{lower, same-but-case}
-use Rattle.words.specs.Table.{near, near-to, likeness}
-use Rattle.words.specs.declared.Likeness.the-variants.{Same, ButCase, Different}
+use Rattle.words.specs.Table.{near, near-to}
 
 -- what fails where a weaker test fails
 pub unless : (a b : Bool) → (a ≡ true → b ≡ true) → b ≡ false → a ≡ false
@@ -69,51 +68,46 @@ pub near-letter : (letter n : ℕ) (v : List ℕ) → near letter n v ≡ true �
 unfolding near
 near-letter letter n v e = eqb-true letter (lower (at v 0)) (and-eq-true-iff (eqb n (length v)) (eqb letter (lower (at v 0))) .0 e .1)
 
--- two spellings of one length after i bytes: the same but for case so far, and the same so far where exact
-pub record Compared (w v : List ℕ) (i : ℕ) (exact : Bool) : Type 0 where
+-- two spellings of one length, alike so far as i bytes are passed
+pub record Passed (alike : List ℕ → List ℕ → Bool) (w v : List ℕ) (i : ℕ) : Type 0 where
   pub within : i ≤ length w
-  pub exactly : same w v ≡ (exact && same (drop i w) (drop i v))
-  pub but-case : same-but-case w v ≡ same-but-case (drop i w) (drop i v)
+  pub so-far : alike w v ≡ alike (drop i w) (drop i v)
 
-module _ (w v : List ℕ) (l : length w ≡ length v) where
-  pub compared-none : Compared w v 0 true
-  compared-none = record { within = omega arith; exactly = refl; but-case = refl }
+-- a test of two spellings byte by byte, on what the bytes are read as
+pub record Bytewise (alike : List ℕ → List ℕ → Bool) (read : ℕ → ℕ) : Type 0 where
+  pub none : alike [] [] ≡ true
+  pub one : (x y : ℕ) (xs ys : List ℕ) → alike (x ∷ xs) (y ∷ ys) ≡ (eqb (read x) (read y) && alike xs ys)
+
+pub same-bytewise : Bytewise same (λ b. b)
+unfolding same
+same-bytewise = record { none = refl; one = λ x y xs ys. refl }
+
+pub case-bytewise : Bytewise same-but-case lower
+unfolding same-but-case
+case-bytewise = record { none = refl; one = λ x y xs ys. refl }
+
+module _ {alike : List ℕ → List ℕ → Bool} {read : ℕ → ℕ} (test : Bytewise alike read) (w v : List ℕ) (l : length w ≡ length v) where
+  pub passed-none : Passed alike w v 0
+  passed-none = record { within = omega arith; so-far = refl }
 
   -- one byte more
-  same-on : (i : ℕ) → i < length w → same (drop i w) (drop i v) ≡ (eqb (getD w i 0) (getD v i 0) && same (drop (i + 1) w) (drop (i + 1) v))
-  unfolding same
-  same-on i h = rw (drop-cons w i 0 h, drop-cons v i 0 (omega arith), add-one)
+  step : (i : ℕ) → i < length w →
+      alike (drop i w) (drop i v) ≡ (eqb (read (getD w i 0)) (read (getD v i 0)) && alike (drop (i + 1) w) (drop (i + 1) v))
+  step i h = rw (drop-cons w i 0 h, drop-cons v i 0 (omega arith), add-one) (test .one _ _ _ _)
 
-  case-on : (i : ℕ) → i < length w → same-but-case (drop i w) (drop i v) ≡
-      (eqb (lower (getD w i 0)) (lower (getD v i 0)) && same-but-case (drop (i + 1) w) (drop (i + 1) v))
-  unfolding same-but-case
-  case-on i h = rw (drop-cons w i 0 h, drop-cons v i 0 (omega arith), add-one)
-
-  pub compared-more : {i : ℕ} {exact : Bool} → i < length w → lower (getD w i 0) ≡ lower (getD v i 0) → Compared w v i exact →
-      Compared w v (i + 1) (exact && eqb (getD w i 0) (getD v i 0))
-  compared-more {i} {exact} h e p = record {
+  pub passed-more : {i : ℕ} → i < length w → read (getD w i 0) ≡ read (getD v i 0) → Passed alike w v i → Passed alike w v (i + 1)
+  passed-more {i} h e p = record {
     within = omega arith;
-    exactly =
-        p .exactly ∙ ap (λ (b : Bool). exact && b) (same-on i h)
-        ∙ sym (and-assoc exact (eqb (getD w i 0) (getD v i 0)) (same (drop (i + 1) w) (drop (i + 1) v)));
-    but-case = p .but-case ∙ case-on i h ∙ ap (λ (b : Bool). b && same-but-case (drop (i + 1) w) (drop (i + 1) v)) (eq-eqb _ _ e);
+    so-far = p .so-far ∙ step i h ∙ ap (λ (b : Bool). b && alike (drop (i + 1) w) (drop (i + 1) v)) (eq-eqb _ _ e);
   }
 
-  pub compared-different : {i : ℕ} {exact : Bool} → i < length w → (lower (getD w i 0) ≡ lower (getD v i 0) → ⊥) →
-      Compared w v i exact → Different ≡ likeness w v
-  unfolding likeness
-  compared-different {i} {exact} h e p =
-      let a : same-but-case w v ≡ false =
-      p .but-case ∙ case-on i h ∙ ap (λ (b : Bool). b && same-but-case (drop (i + 1) w) (drop (i + 1) v)) (ne-eqb _ _ e) in
-      let b : same w v ≡ false = unless (same w v) (same-but-case w v) (same-case w v) a in
-      rw (b, a)
+  -- a byte that differs settles it
+  pub passed-stop : {i : ℕ} → i < length w → (read (getD w i 0) ≡ read (getD v i 0) → ⊥) → Passed alike w v i → false ≡ alike w v
+  passed-stop {i} h e p =
+      sym (p .so-far ∙ step i h ∙ ap (λ (b : Bool). b && alike (drop (i + 1) w) (drop (i + 1) v)) (ne-eqb _ _ e))
 
-  pub compared-all : {i : ℕ} {exact : Bool} → length w ≤ i → Compared w v i exact → cond exact Same ButCase ≡ likeness w v
-  unfolding likeness same same-but-case
-  compared-all {i} {exact} h p =
-      let dw = drop-of-length-le w h in
+  -- and so does the end
+  pub passed-all : {i : ℕ} → length w ≤ i → Passed alike w v i → true ≡ alike w v
+  passed-all {i} h p =
       let hv : length v ≤ i = omega arith in
-      let dv = drop-of-length-le v hv in
-      let a : same-but-case w v ≡ true = p .but-case ∙ rw (dw, dv) in
-      let b : same w v ≡ exact = p .exactly ∙ rw (dw, dv) (and-true exact) in
-      rw (b, a)
+      sym (p .so-far ∙ rw (drop-of-length-le w h, drop-of-length-le v hv) (test .none))

@@ -3,6 +3,7 @@ ghost use mathlib.Core.Bool.{true};
 ghost use mathlib.Core.Path.{_≡_};
 ghost use Prim.Native.Nat.{suc, _+_, _<_};
 ghost use lib.ListN.{length};
+ghost use Rattle.kinds.specs.Kinds.{same};
 ghost use Rattle.text.specs.Words as text-words;
 ghost use Rattle.words.specs.Table.{table, likeness, spelling, First, near-to};
 use text::Class;
@@ -128,27 +129,48 @@ fn lower(b: u8) -> u8
     }
 }
 
+// Whether a word is spelled exactly so.
+fn is_same(w: &[u8], v: &[u8]) -> bool
+    requires { ⌜ length (now w) ≡ length (now v) ⌝ }
+    ensures { λ r. ⌜ r ≡ same (now (w .entry)) (now (v .entry)) ⌝ }
+{
+    let mut i = 0;
+    while i < w.len() {
+        if w[i] != v[i] {
+            return false;
+        }
+        i += 1;
+    }
+    true
+}
+
+// Whether a word is spelled so, the case of letters aside.
+fn is_same_but_case(w: &[u8], v: &[u8]) -> bool
+    requires { ⌜ length (now w) ≡ length (now v) ⌝ }
+    ensures { λ r. ⌜ r ≡ text-words.same-but-case (now (w .entry)) (now (v .entry)) ⌝ }
+{
+    let mut i = 0;
+    while i < w.len() {
+        if lower(w[i]) != lower(v[i]) {
+            return false;
+        }
+        i += 1;
+    }
+    true
+}
+
 // Compares a word with a spelling of its length.
 fn likeness_of(w: &[u8], v: &[u8]) -> Likeness
     requires { ⌜ length (now w) ≡ length (now v) ⌝ }
     ensures { λ r. ⌜ r ≡ likeness (now (w .entry)) (now (v .entry)) ⌝ }
 {
-    let mut exact = true;
-    let mut i = 0;
-    while i < w.len() {
-        let x = w[i];
-        let y = v[i];
-        if lower(x) != lower(y) {
-            return Likeness::Different;
-        }
-        exact = exact & (x == y);
-        i += 1;
+    if is_same(w, v) {
+        return Likeness::Same;
     }
-    if exact {
-        Likeness::Same
-    } else {
-        Likeness::ButCase
+    if is_same_but_case(w, v) {
+        return Likeness::ButCase;
     }
+    Likeness::Different
 }
 
 // The first row with the length and, case aside, the first letter of a word.

@@ -25,10 +25,9 @@ returns-2 c =
 
 returns-3 : tie.Need-returns-3
 returns-3 c =
-    let second = c .before .before .before in
+    let second = c .before .before in
     let e = second .byte-at .ensures in
-    c .mark .ensures
-    ∙ slash-mark _ (second .before .before .pre) (λ f. c .before .before .if1 .left (e ∙ f)) (λ f. c .before .if2 .left (e ∙ f))
+    slash-mark _ (second .before .before .pre) (λ f. c .before .if1 .left (e ∙ f)) (λ f. c .if2 .left (e ∙ f))
 
 pub slash-spec : {M : Type 1} → statement M
 slash-spec =
@@ -39,5 +38,4 @@ slash-spec =
     returns
     block-comment-requires
     returns-2
-    (λ c κs. search needs)
     returns-3)

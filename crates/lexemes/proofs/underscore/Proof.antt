@@ -6,15 +6,14 @@ use borrow.Author.Needs.{needs}
 use lib.ListN.{List·getD-eq-default}
 use Rattle.text.specs.Bytes.{letter}
 use Rattle.text.proofs.Runs.{at-inside}
-use Rattle.lexemes.proofs.Sorting.{underscore-word, underscore-mark}
+use Rattle.lexemes.proofs.Sorting.{underscore-word, underscore-alone}
 use Rattle.lexemes.proofs.underscore.Statement.{statement}
 use Rattle.lexemes.proofs.underscore.Tie as tie
 
 returns : tie.Need-returns
 unfolding letter
 returns c =
-    c .mark .ensures
-    ∙ underscore-mark _ (c .before .before .before .pre) (ap letter (List·getD-eq-default (c .before .before .before .args .bs .now) 256 (omega arith)))
+    underscore-alone _ (c .before .before .pre) (ap letter (List·getD-eq-default (c .before .before .args .bs .now) 256 (omega arith)))
 
 returns-2 : tie.Need-returns-2
 returns-2 c =
@@ -26,21 +25,18 @@ returns-2 c =
 
 returns-3 : tie.Need-returns-3
 returns-3 c =
-    let tested = c .before .before in
+    let tested = c .before in
     let start = tested .before .before .before .before in
     let inside = at-inside (start .args .bs .now) 1 (omega arith) in
-    c .mark2 .ensures
-    ∙ underscore-mark _ (start .pre) (ap letter (sym inside) ∙ sym (tested .is-letter .ensures) ∙ c .before .if2 .left)
+    underscore-alone _ (start .pre) (ap letter (sym inside) ∙ sym (tested .is-letter .ensures) ∙ c .if2 .left)
 
 pub underscore-spec : {M : Type 1} → statement M
 underscore-spec =
     tie.close
     (tie.spec
-    (λ c κs. search needs)
     returns
     (λ c. search needs)
     (λ c κs. search needs)
     (λ c κs. search needs)
     returns-2
-    (λ c κs. search needs)
     returns-3)

@@ -1,65 +1,27 @@
--- `words::likeness_of` meets its contract. The loop's invariant: the bytes passed are the same but for case, and the same where `exact`.
--- A byte more keeps it; one that differs, case aside, settles the comparison, and so does the end. Assumes nothing.
+-- `words::likeness_of` meets its contract: it tests what the definition tests, in its order.
+-- Each return rewrites the definition by what the tests before it said. Assumes nothing.
 use mathlib.Core.Path.{_≡_, sym, _∙_}
-use mathlib.Core.Bool.{cond}
-use Prim.Native.Nat.{_-_}
+use mathlib.Core.Bool.{false}
 use borrow.Author.Needs.{needs}
-use lib.ListN.{length}
+use Rattle.kinds.specs.Kinds.{same}
 use Rattle.words.specs.Table.{likeness}
-use Rattle.words.specs.declared.Likeness.the-variants.{Same, ButCase}
-use Rattle.words.proofs.Spellings.{Compared, compared-none, compared-more, compared-different, compared-all}
 use Rattle.words.proofs.likeness_of.Statement.{statement}
 use Rattle.words.proofs.likeness_of.Tie as tie
 
-abbrev Inv-loop : tie.InvT-loop
-Inv-loop w v exact₀ i₀ exact i = Compared w v i exact
+returns : tie.Need-returns
+unfolding likeness
+returns c = rw (sym (c .before .is-same .ensures) ∙ c .if1 .taken)
 
-abbrev μ-loop : tie.MeasureT-loop
-μ-loop w v exact₀ i₀ exact i = length w - i
+not-same : (c : tie.Else1) → same (c .before .before .before .before .args .w .now) (c .before .before .before .before .args .v .now) ≡ false
+not-same c = sym (c .before .is-same .ensures) ∙ c .if1 .left
 
-loop-holds : tie.Need-loop-holds Inv-loop μ-loop
-loop-holds c = compared-none _ _ (c .before .before .pre)
+returns-2 : tie.Need-returns-2
+unfolding likeness
+returns-2 c = rw (not-same (c .before .before), sym (c .before .is-same-but-case .ensures) ∙ c .if2 .taken)
 
-returns : tie.Need-returns Inv-loop μ-loop
-returns c =
-    compared-different _ _ (c .before .before .before .before .before .before .before .before .before .pre)
-    (c .before .before .before .before .before .loop-test .taken)
-    (λ e. c .if1 .taken (c .before .before .lower .ensures ∙ e ∙ sym (c .before .lower2 .ensures)))
-    (c .before .before .before .before .before .before .loop .inv)
-
-loop-again : tie.Need-loop-again Inv-loop μ-loop
-loop-again c =
-    compared-more _ _ (c .before .before .before .before .before .before .before .before .before .pre)
-    (c .before .before .before .before .before .loop-test .taken)
-    (sym (c .before .before .lower .ensures) ∙ c .if1 .left ∙ c .before .lower2 .ensures)
-    (c .before .before .before .before .before .before .loop .inv)
-
--- every byte is passed
-whole : (c : tie.After-loop Inv-loop μ-loop) →
-    let a = c .before .before .before .before .args in
-    cond (c .before .loop .exact) Same ButCase ≡ likeness (a .w .now) (a .v .now)
-whole c = compared-all _ _ (c .before .before .before .before .pre) (c .loop-test .left) (c .before .loop .inv)
-
-returns-2 : tie.Need-returns-2 Inv-loop μ-loop
-returns-2 c = rw (c .if2 .taken) at (whole (c .before))
-
-returns-3 : tie.Need-returns-3 Inv-loop μ-loop
-returns-3 c = rw (c .if2 .left) at (whole (c .before))
+returns-3 : tie.Need-returns-3
+unfolding likeness
+returns-3 c = rw (not-same (c .before .before), sym (c .before .is-same-but-case .ensures) ∙ c .if2 .left)
 
 pub likeness-of-spec : {M : Type 1} → statement M
-likeness-of-spec =
-    tie.close
-    (tie.spec
-    Inv-loop
-    μ-loop
-    loop-holds
-    (λ c. search needs)
-    (λ c. search needs)
-    (λ c κs. search needs)
-    (λ c κs. search needs)
-    returns
-    (λ c. search needs)
-    (λ c. search needs)
-    loop-again
-    returns-2
-    returns-3)
+likeness-of-spec = tie.close (tie.spec (λ c κs. search needs) returns (λ c κs. search needs) returns-2 returns-3)
