@@ -1,0 +1,4 @@
+pub mod Copied
+pub mod Decimal
+pub mod Listed
+pub mod Written
