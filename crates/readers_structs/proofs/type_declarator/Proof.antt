@@ -1,0 +1,26 @@
+-- `type_declarator` reads rule 43 in a frame of its own.
+-- Its calls are put together as its plan is. Assumes nothing.
+use Rattle.prediction.specs.Check.{table}
+use Rattle.prediction.specs.Columns.{plan-at, round}
+use Rattle.prediction.specs.IdlPlans.{idl-prediction}
+use Rattle.readers_core.proofs.Frames.{frame}
+use Rattle.readers_core.proofs.Sequence.{_▸_}
+use borrow.Author.Needs.{needs}
+use Rattle.readers_structs.proofs.type_declarator.Statement.{statement}
+use Rattle.readers_structs.proofs.type_declarator.Tie as tie
+
+returns : tie.Need-returns
+unfolding table round plan-at idl-prediction
+returns c =
+    let enter = c .before .before .before .before .before .before .before .before .before .before .before .before .enter in
+    let type-spec = c .before .before .before .before .before .before .before .before .before .before .type-spec in
+    let declarators = c .before .before .before .before .before .before .declarators in
+    let leave = c .before .before .leave in
+    frame 43 (enter .ensures)
+    ((type-spec .ensures .in-any _) ▸ (declarators .ensures .in-any _) ▸ (leave .ensures .closes .wraps _ _))
+    (leave .ensures .joins)
+
+pub type-declarator-spec : {M : Type 1} → statement M
+type-declarator-spec =
+    tie.close (tie.spec (λ c κs. search needs) (λ c κs. search needs) (λ c κs. search needs)
+    (λ c κs. search needs) (λ c. search needs) returns)
