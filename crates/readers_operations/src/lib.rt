@@ -12,24 +12,9 @@ use readers_core::leave;
 use readers_core::next_kind;
 use readers_core::open;
 use readers_core::take;
-use readers_names::base_type_spec;
 use readers_names::scoped_name;
 use readers_names::word;
-use readers_strings::string_type;
-
-// (95) param_type_spec
-pub fn param_type_spec(tokens: &[u32], tree: &mut [u32], s: Reading, depth: u32) -> Reading
-    requires { ⌜ Short (now tokens) ⌝ }
-    ensures { λ r. ⌜ Reads (now (tokens .entry)) depth (call 95) (s, now (tree .entry)) (r, now (tree .exit)) ⌝ }
-{
-    let next = next_kind(tokens, s);
-    match next {
-        kind::STRING => string_type(tokens, tree, s, depth, kind::STRING, 81),
-        kind::WSTRING => string_type(tokens, tree, s, depth, kind::WSTRING, 82),
-        kind::IDENTIFIER | kind::SCOPE => scoped_name(tokens, tree, s),
-        _ => base_type_spec(tokens, tree, s),
-    }
-}
+use readers_types::param_type_spec;
 
 // (89) op_type_spec
 fn op_type_spec(tokens: &[u32], tree: &mut [u32], s: Reading, depth: u32) -> Reading

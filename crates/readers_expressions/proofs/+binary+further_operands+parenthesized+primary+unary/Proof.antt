@@ -127,12 +127,14 @@ binary-returns-2 : (t : ℕ) → binary-lts.Need-returns-2 (binary-claims t) (bi
 binary-returns-2 t c =
     let begun = c .before .before .before .before .before .before .before .before in
     let args = begun .before .before .before .before .before .before .before .before .before .args in
-    let pre = c .before .before .before .before .before .before .before .before .before .before .before .before .before .before .before .before .before .pre in
-    let if1 = c .before .before .before .before .before .before .before .before .before .before .before .before .before .before .if1 in
-    let enter = c .before .before .before .before .before .before .before .before .before .before .before .before .before .enter in
-    let binary = c .before .before .before .before .before .before .before .before .before .before .before .binary in
-    let close = c .before .before .before .before .before .before .before .close in
     let further-operands = c .before .before .before .further-operands in
+    let close = c .before .before .before .before .before .before .before .close in
+    let at-binary = c .before .before .before .before .before .before .before .before .before .before .before in
+    let binary = at-binary .binary in
+    let enter = at-binary .before .before .enter in
+    let if1 = at-binary .before .before .before .if1 in
+    let at-pre = at-binary .before .before .before .before .before .before in
+    let pre = at-pre .pre in
     let l = at-level (args .level) (pre .1 .1) (omega (arith, (pre .1 .2), (if1 .left))) in
     frame-by (args .level) (l .plan) (enter .ensures)
     ((binary .ensures .in-any _) ▸ (close .ensures .wraps _ _) ▸ (further-operands .ensures)) (c .join .ensures)
@@ -180,15 +182,16 @@ further-operands-loop-less : (t : ℕ) → further-operands-lts.Need-loop-less (
     (further-operands-at t) further-operands.Post further-operands-Inv-loop further-operands-μ-loop
 unfolding Knows further-operand
 further-operands-loop-less t c =
-    let args = c .before .before .before .before .before .before .before .before .before .before .before .before .before .before .before .args in
-    let pre = c .before .before .before .before .before .before .before .before .before .before .before .before .before .before .before .pre in
-    let next-kind =
-    c .before .before .before .before .before .before .before .before .before .before .before .next-kind in
-    let is-operator = c .before .before .before .before .before .before .before .before .before .before .is-operator in
-    let if1 = c .before .before .before .before .before .before .before .before .before .if1 in
-    let take = c .before .before .before .before .before .before .before .before .take in
-    let binary = c .before .before .before .before .before .before .binary in
     let close = c .before .before .close in
+    let binary = c .before .before .before .before .before .before .binary in
+    let take = c .before .before .before .before .before .before .before .before .take in
+    let if1 = c .before .before .before .before .before .before .before .before .before .if1 in
+    let at-is-operator = c .before .before .before .before .before .before .before .before .before .before in
+    let is-operator = at-is-operator .is-operator in
+    let next-kind = at-is-operator .before .next-kind in
+    let at-args = at-is-operator .before .before .before .before .before in
+    let args = at-args .args in
+    let pre = at-args .pre in
     let l = at-level (args .level) (pre .1 .1) (pre .1 .2) in let h =
     holds (next-kind .result) (operators (args .level)) (is-operator .ensures) (if1 .taken) in
     repetition.falls (among (operators (args .level))) (next-kind .ensures)
@@ -200,17 +203,19 @@ further-operands-loop-again : (t : ℕ) → further-operands-lts.Need-loop-again
     (further-operands-at t) further-operands.Post further-operands-Inv-loop further-operands-μ-loop
 unfolding Knows further-operand
 further-operands-loop-again t c =
-    let args = c .before .before .before .before .before .before .before .before .before .before .before .before .before .before .before .args in
-    let pre = c .before .before .before .before .before .before .before .before .before .before .before .before .before .before .before .pre in
+    let halfway = c .before .before .before .before .before .before .before .before in
+    let at-args = halfway .before .before .before .before .before .before .before in
+    let args = at-args .args in
+    let pre = at-args .pre in
     let loop = c .before .before .before .before .before .before .before .before .before .before .before .before .loop
     in
-    let next-kind =
-    c .before .before .before .before .before .before .before .before .before .before .before .next-kind in
-    let is-operator = c .before .before .before .before .before .before .before .before .before .before .is-operator in
-    let if1 = c .before .before .before .before .before .before .before .before .before .if1 in
-    let take = c .before .before .before .before .before .before .before .before .take in
-    let binary = c .before .before .before .before .before .before .binary in
     let close = c .before .before .close in
+    let binary = c .before .before .before .before .before .before .binary in
+    let take = c .before .before .before .before .before .before .before .before .take in
+    let if1 = c .before .before .before .before .before .before .before .before .before .if1 in
+    let at-is-operator = c .before .before .before .before .before .before .before .before .before .before in
+    let is-operator = at-is-operator .is-operator in
+    let next-kind = at-is-operator .before .next-kind in
     let l = at-level (args .level) (pre .1 .1) (pre .1 .2) in let h =
     holds (next-kind .result) (operators (args .level)) (is-operator .ensures) (if1 .taken) in (
       (close .kept .0) ∙ (binary .kept .1 .0) ∙ (loop .inv .0),
@@ -332,16 +337,15 @@ unary-claims t = (
 unary-returns : (t : ℕ) → unary-lts.Need-returns (unary-claims t) (unary-at t) unary.Post
 unfolding table round plan-at idl-prediction choose Knows single recorded signs
 unary-returns t c =
-    let next-kind =
-    c .before .before .before .before .before .before .before .before .before .before .before .before .before .before .before .next-kind in
-    let is-sign =
-    c .before .before .before .before .before .before .before .before .before .before .before .before .before .before .is-sign in
-    let if1 = c .before .before .before .before .before .before .before .before .before .before .before .before .before .if1 in
-    let enter = c .before .before .before .before .before .before .before .before .before .before .before .before .enter in
-    let unary-operator =
-    c .before .before .before .before .before .before .before .before .before .before .unary-operator in
-    let primary = c .before .before .before .before .before .before .primary in
     let leave = c .before .before .leave in
+    let primary = c .before .before .before .before .before .before .primary in
+    let at-unary-operator = c .before .before .before .before .before .before .before .before .before .before in
+    let unary-operator = at-unary-operator .unary-operator in
+    let enter = at-unary-operator .before .before .enter in
+    let if1 = at-unary-operator .before .before .before .if1 in
+    let is-sign = at-unary-operator .before .before .before .before .is-sign in
+    let at-next-kind = at-unary-operator .before .before .before .before .before in
+    let next-kind = at-next-kind .next-kind in
     frame-on 36 (among signs) (next-kind .ensures)
     (elem-any signs (next-kind .result) (holds (next-kind .result) signs (is-sign .ensures) (if1 .taken)))
     (enter .ensures)

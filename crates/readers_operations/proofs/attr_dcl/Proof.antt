@@ -19,15 +19,15 @@ further-requires c κs = (search needs, inr (inl refl))
 returns : tie.Need-returns
 unfolding table round plan-at idl-prediction
 returns c =
-    let enter = c .before .before .before .before .before .before .before .before .before .before .before .before .before .before .before .before .before .before .enter in
-    let readonly =
-    c .before .before .before .before .before .before .before .before .before .before .before .before .before .before .before .before .before .readonly in
-    let take = c .before .before .before .before .before .before .before .before .before .before .before .before .before .before .before .before .take in
-    let param-type-spec =
-    c .before .before .before .before .before .before .before .before .before .before .before .before .before .before .param-type-spec in
-    let word = c .before .before .before .before .before .before .before .before .before .before .word in
-    let further = c .before .before .before .before .before .before .further in
     let leave = c .before .before .leave in
+    let further = c .before .before .before .before .before .before .further in
+    let at-word = c .before .before .before .before .before .before .before .before .before .before in
+    let word = at-word .word in
+    let param-type-spec = at-word .before .before .before .before .param-type-spec in
+    let at-take = at-word .before .before .before .before .before .before in
+    let take = at-take .take in
+    let readonly = at-take .before .readonly in
+    let enter = at-take .before .before .enter in
     frame 85 (enter .ensures)
     ((readonly .ensures .reads _ _ .in-any _) ▸ (take .ensures .reads _ _ .in-any _) ▸
     (param-type-spec .ensures .in-any _) ▸ ((word .ensures .reads) refl .at-any _ .in-any _) ▸

@@ -11,44 +11,42 @@ use Rattle.readers_operations.proofs.op_dcl.Statement.{statement}
 use Rattle.readers_operations.proofs.op_dcl.Tie as tie
 
 raises-requires : tie.Need-raises-requires
-unfolding table round plan-at idl-prediction
 raises-requires c κs =
-    let pre = c .before .before .before .before .before .before .before .before .before .before .before .before .before .before .before .before .before .pre in
-    pre
+    let halfway = c .before .before .before .before .before .before .before .before in
+    halfway .before .before .before .before .before .before .before .before .before .pre
 
 context-requires : tie.Need-context-requires
-unfolding table round plan-at idl-prediction
 context-requires c κs =
-    let pre = c .before .before .before .before .before .before .before .before .before .before .before .before .before .before .before .before .before .before .before .before .before .pre in
-    pre
+    let halfway = c .before .before .before .before .before .before .before .before .before .before in
+    halfway .before .before .before .before .before .before .before .before .before .before .before .pre
 
 same-length : tie.Need-same-length
-unfolding table round plan-at idl-prediction
 same-length c =
-    let oneway = c .before .before .before .before .before .before .before .before .before .before .before .before .before .before .before .before .before .before .before .before .before .before .before .oneway in
-    let op-type-spec =
-    c .before .before .before .before .before .before .before .before .before .before .before .before .before .before .before .before .before .before .before .op-type-spec in
-    let parameter-dcls =
-    c .before .before .before .before .before .before .before .before .before .before .before .before .before .before .parameter-dcls in
-    let raises = c .before .before .before .before .before .before .before .before .before .before .raises in
-    let context = c .before .before .before .before .before .before .context in
     let leave = c .before .before .leave in
+    let context = c .before .before .before .before .before .before .context in
+    let at-raises = c .before .before .before .before .before .before .before .before .before .before in
+    let raises = at-raises .raises in
+    let parameter-dcls = at-raises .before .before .before .before .parameter-dcls in
+    let at-op-type-spec = at-raises .before .before .before .before .before .before .before .before .before in
+    let op-type-spec = at-op-type-spec .op-type-spec in
+    let oneway = at-op-type-spec .before .before .before .before .oneway in
     (leave .kept .0) ∙ (context .kept .1 .0) ∙ (raises .kept .1 .0) ∙ (parameter-dcls .kept .1 .0) ∙
     (op-type-spec .kept .1 .0) ∙ (oneway .kept .1 .0)
 
 returns : tie.Need-returns
 unfolding table round plan-at idl-prediction
 returns c =
-    let enter = c .before .before .before .before .before .before .before .before .before .before .before .before .before .before .before .before .before .before .before .before .before .before .before .before .before .enter in
-    let oneway = c .before .before .before .before .before .before .before .before .before .before .before .before .before .before .before .before .before .before .before .before .before .before .before .oneway in
-    let op-type-spec =
-    c .before .before .before .before .before .before .before .before .before .before .before .before .before .before .before .before .before .before .before .op-type-spec in
-    let take = c .before .before .before .before .before .before .before .before .before .before .before .before .before .before .before .before .take in
-    let parameter-dcls =
-    c .before .before .before .before .before .before .before .before .before .before .before .before .before .before .parameter-dcls in
-    let raises = c .before .before .before .before .before .before .before .before .before .before .raises in
-    let context = c .before .before .before .before .before .before .context in
     let leave = c .before .before .leave in
+    let context = c .before .before .before .before .before .before .context in
+    let at-raises = c .before .before .before .before .before .before .before .before .before .before in
+    let raises = at-raises .raises in
+    let parameter-dcls = at-raises .before .before .before .before .parameter-dcls in
+    let at-take = at-raises .before .before .before .before .before .before in
+    let take = at-take .take in
+    let op-type-spec = at-take .before .before .before .op-type-spec in
+    let at-oneway = at-take .before .before .before .before .before .before .before in
+    let oneway = at-oneway .oneway in
+    let enter = at-oneway .before .before .enter in
     frame 87 (enter .ensures)
     ((oneway .ensures .at-any _ .in-any _) ▸ (op-type-spec .ensures .in-any _) ▸
     (take .ensures .reads _ _ .in-any _) ▸ (parameter-dcls .ensures .in-any _) ▸ (raises .ensures .in-any _) ▸

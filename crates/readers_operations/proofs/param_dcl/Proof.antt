@@ -13,13 +13,13 @@ use Rattle.readers_operations.proofs.param_dcl.Tie as tie
 returns : tie.Need-returns
 unfolding table round plan-at idl-prediction
 returns c =
-    let enter = c .before .before .before .before .before .before .before .before .before .before .before .before .before .before .before .before .enter in
-    let param-attribute =
-    c .before .before .before .before .before .before .before .before .before .before .before .before .before .before .param-attribute in
-    let param-type-spec =
-    c .before .before .before .before .before .before .before .before .before .before .param-type-spec in
-    let word = c .before .before .before .before .before .before .word in
     let leave = c .before .before .leave in
+    let word = c .before .before .before .before .before .before .word in
+    let at-param-type-spec = c .before .before .before .before .before .before .before .before .before .before in
+    let param-type-spec = at-param-type-spec .param-type-spec in
+    let param-attribute = at-param-type-spec .before .before .before .before .param-attribute in
+    let at-enter = at-param-type-spec .before .before .before .before .before .before in
+    let enter = at-enter .enter in
     frame 91 (enter .ensures)
     ((param-attribute .ensures .at-any _ .in-any _) ▸ (param-type-spec .ensures .in-any _) ▸
     ((word .ensures .reads) refl .at-any _ .in-any _) ▸ (leave .ensures .closes .wraps _ _)) (leave .ensures .joins)

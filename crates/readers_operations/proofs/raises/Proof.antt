@@ -15,13 +15,13 @@ use Rattle.readers_operations.proofs.raises.Tie as tie
 returns : tie.Need-returns
 unfolding table round plan-at idl-prediction choose Knows
 returns c =
-    let next-kind =
-    c .before .before .before .before .before .before .before .before .before .before .before .next-kind in
-    let if1 = c .before .before .before .before .before .before .before .before .before .before .if1 in
-    let enter = c .before .before .before .before .before .before .before .before .before .enter in
-    let take = c .before .before .before .before .before .before .before .before .take in
-    let exceptions = c .before .before .before .before .before .before .exceptions in
     let leave = c .before .before .leave in
+    let exceptions = c .before .before .before .before .before .before .exceptions in
+    let take = c .before .before .before .before .before .before .before .before .take in
+    let enter = c .before .before .before .before .before .before .before .before .before .enter in
+    let at-if1 = c .before .before .before .before .before .before .before .before .before .before in
+    let if1 = at-if1 .if1 in
+    let next-kind = at-if1 .before .next-kind in
     record {
       in-any =
           λ start. chosen (among (48 ∷ [])) (next-kind .ensures) (if1 .taken)
