@@ -1,0 +1,71 @@
+-- `further_interface_names` reads on while a comma stands ahead.
+-- The part read so far as a continuation; what is left to read falls. Assumes nothing.
+use Prim.Native.Nat.{ℕ}
+use Rattle.prediction.specs.Check.{table}
+use Rattle.prediction.specs.Columns.{plan-at, round}
+use Rattle.prediction.specs.IdlPlans.{idl-prediction}
+use Rattle.prediction.specs.Plan.{call, seq, token}
+use Rattle.readers_core.proofs.Choosing.{Knows, among, except, is-over}
+use Rattle.readers_core.proofs.Repetition.{Far, falls, far-here, far-more, far-over, remaining, repeats}
+use Rattle.readers_core.proofs.Sequence.{_▸_}
+use Rattle.readers_core.specs.declared.Reading.{Reading}
+use borrow.Author.Needs.{needs}
+use lib.ListN.{length}
+use mathlib.Core.List.{[], _∷_}
+use mathlib.Core.Path.{_∙_, _≡_, refl}
+use Rattle.readers_values.proofs.further_interface_names.Statement.{statement}
+use Rattle.readers_values.proofs.further_interface_names.Tie as tie
+
+abbrev Inv-loop : tie.InvT-loop
+Inv-loop tokens tree₀ t₀ tree t =
+    (length tree ≡ length tree₀) ×
+    ((d : ℕ) (start : Reading) → Far tokens d start (seq (token 68) (call 11)) (t₀, tree₀) (t, tree))
+
+abbrev μ-loop : tie.MeasureT-loop
+μ-loop tokens tree₀ t₀ tree t = remaining tokens t
+
+loop-holds : tie.Need-loop-holds Inv-loop μ-loop
+loop-holds c = (refl, λ d start. far-here)
+
+loop-less : tie.Need-loop-less Inv-loop μ-loop
+unfolding table round plan-at idl-prediction Knows repeats is-over
+loop-less c =
+    let loop = c .before .before .before .before .before .before .before .loop in
+    let next-kind = c .before .before .before .before .before .before .next-kind in
+    let if1 = c .before .before .before .before .before .if1 in
+    let take = c .before .before .before .before .take in
+    let interface-name = c .before .before .interface-name in
+    falls {d = 0} {start = (loop .t)} (among (68 ∷ [])) (next-kind .ensures) (if1 .taken) tt
+    ((take .ensures .reads _ _ .in-any _) ▸ (interface-name .ensures .at-any _ .in-any _))
+
+loop-again : tie.Need-loop-again Inv-loop μ-loop
+unfolding table round plan-at idl-prediction Knows repeats is-over
+loop-again c =
+    let loop = c .before .before .before .before .before .before .before .loop in
+    let next-kind = c .before .before .before .before .before .before .next-kind in
+    let if1 = c .before .before .before .before .before .if1 in
+    let take = c .before .before .before .before .take in
+    let interface-name = c .before .before .interface-name in (
+      (interface-name .kept .1 .0) ∙ (loop .inv .0),
+      λ d start. far-more (among (68 ∷ [])) (next-kind .ensures)
+          (if1 .taken) tt ((take .ensures .reads _ _ .in-any _) ▸ (interface-name .ensures .at-any _ .in-any _))
+          ((loop .inv .1) d start),
+    )
+
+returns : tie.Need-returns Inv-loop μ-loop
+unfolding table round plan-at idl-prediction Knows repeats is-over
+returns c =
+    let loop = c .before .before .loop in
+    let next-kind = c .before .next-kind in
+    record {
+      at-any =
+          λ d. record {
+            in-any = λ start. far-over (except ((68 ∷ []) ∷ [])) (next-kind .ensures) (tt, (c .if1 .left)) tt
+                ((loop .inv .1) d start);
+          };
+    }
+
+pub further-interface-names-spec : {M : Type 1} → statement M
+further-interface-names-spec =
+    tie.close (tie.spec Inv-loop μ-loop loop-holds (λ c κs. search needs) (λ c κs. search needs)
+    (λ c κs. search needs) loop-less loop-again (λ c. search needs) returns)

@@ -1,0 +1,38 @@
+-- `visibility` reads by its plan: the kind ahead tells the choice.
+-- What the plan comes to is what was called. Assumes nothing.
+use Rattle.readers_core.proofs.Choosing.{Knows, among, choose, except}
+use Rattle.readers_core.proofs.Frames.{chosen}
+use borrow.Author.Needs.{needs}
+use mathlib.Core.List.{[], _∷_}
+use Rattle.readers_values.proofs.visibility.Statement.{statement}
+use Rattle.readers_values.proofs.visibility.Tie as tie
+
+returns : tie.Need-returns
+unfolding choose Knows
+returns c =
+    let next-kind = c .before .before .next-kind in
+    let if1 = c .before .if1 in
+    record {
+      reads =
+          λ d w. record {
+            in-any = λ start. chosen (among (47 ∷ [])) (next-kind .ensures) (if1 .taken)
+                (c .take .ensures .reads _ _ .in-any _);
+          };
+    }
+
+returns-2 : tie.Need-returns-2
+unfolding choose Knows
+returns-2 c =
+    let next-kind = c .before .before .next-kind in
+    let if1 = c .before .if1 in
+    record {
+      reads =
+          λ d w. record {
+            in-any = λ start. chosen (except ((47 ∷ []) ∷ [])) (next-kind .ensures) (tt, (if1 .left))
+                (c .take2 .ensures .reads _ _ .in-any _);
+          };
+    }
+
+pub visibility-spec : {M : Type 1} → statement M
+visibility-spec =
+    tie.close (tie.spec (λ c κs. search needs) (λ c κs. search needs) returns (λ c κs. search needs) returns-2)
