@@ -1,9 +1,9 @@
 -- An operator and its right operand, as one of a level's operators is next; and what each level is, by its number.
 -- The next kind tells the choice; the six levels are computed. Assumes nothing.
-use Prim.Native.Nat.{ℕ, _+_, _≤_, _<_}
+use Prim.Native.Nat.{ℕ, _+_, _≤_}
 use native.Mathlib.Omega.{arith}
 use mathlib.Core.Path.{_≡_, refl, sym, _∙_, subst}
-use mathlib.Core.Bool.{Bool, true, false, not}
+use mathlib.Core.Bool.{false, not}
 use mathlib.Core.List.{List, [], _∷_}
 use mathlib.Core.Logic.{_⊎_, inl, inr}
 use lib.Dec.{T, T-not, eqb, eqb→eq, eqb-refl}
@@ -20,7 +20,7 @@ use Rattle.prediction.specs.IdlPlans.{idl-prediction}
 use Rattle.prediction.specs.IdlChecked.{idl-checked, idl-table}
 use Rattle.readers_core.specs.Reading.{kind-at, ahead, State, Within}
 use Rattle.readers_core.specs.declared.Reading.{Reading}
-use Rattle.readers_core.proofs.Choosing.{among, except, is-over, elem-any}
+use Rattle.readers_core.proofs.Choosing.{among, except, is-over}
 use Rattle.readers_core.proofs.Frames.{ahead-kind}
 use Rattle.readers_core.proofs.Repetition.{repeats}
 use Rattle.readers_expressions.specs.Levels.{operators, one-before, further-operand}
