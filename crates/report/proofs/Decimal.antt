@@ -1,6 +1,6 @@
 -- The fewest decimal digits that hold a 32-bit number are as many as `width` says, and at most ten.
 -- By induction on the digits: a number of two or more digits has one more than its tenth part. Assumes nothing.
-use Prim.Native.Nat.{ℕ, zero, suc, _+_, _-_, _*_, _/_, _^_, _≤_, _<_}
+use Prim.Native.Nat.{ℕ, zero, suc, _-_, _/_, _^_, _≤_, _<_}
 use mathlib.Core.Bool.{Bool, true, false, cond}
 use mathlib.Core.Path.{_≡_, refl, ap, subst}
 use native.Mathlib.Nat.{pow-succ', one-le-pow}

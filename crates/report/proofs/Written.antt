@@ -1,5 +1,5 @@
--- Bytes put behind others, one put after another, stand behind one another. What is written is p, then q, then r.
--- By associativity. Assumes nothing.
+-- What is put behind p, and then behind that, stands behind p in a row: words, numbers on a line, records, the report.
+-- By associativity, and by the definitions. Assumes nothing.
 use Prim.Native.Nat.{ℕ, suc, _+_, _≤_, _<_}
 use mathlib.Core.List.{List, [], _∷_, _++_, append-assoc}
 use mathlib.Core.Path.{_≡_, ap, sym, _∙_}

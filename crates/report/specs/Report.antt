@@ -18,14 +18,14 @@ width (suc besides) n = cond (ltb n 10) 1 (suc (width besides (n / 10)))
 abbrev pub number : ℕ → List ℕ
 number n = digits 10 (width 9 n) n
 
--- numbers on a line, a blank between two and byte 10 after the last
+-- numbers on a line, a blank between two: "each line closed by byte 10"
 unfoldable pub line : List ℕ → List ℕ
 unfolding width
 line [] = []
 line (n ∷ []) = number n ++ 10 ∷ []
 line (n ∷ m ∷ ns) = number n ++ 32 ∷ line (m ∷ ns)
 
--- "each tree record as four numbers on a line", for so many records, as far as the table has them
+-- a line of four numbers for each of so many records, as far as the table has them
 unfoldable pub lines : (records : ℕ) → (tree : List ℕ) → List ℕ
 unfolding line
 lines zero tree = []

@@ -1,7 +1,7 @@
 -- `report::spell` meets its contract: the fewest digits that hold the number are as many as `number` has, ten at most.
 -- A 32-bit number is below the tenth power of ten. Assumes nothing.
 use Prim.Native.Nat.{ℕ}
-use mathlib.Core.Path.{_≡_, ap, sym, _∙_}
+use mathlib.Core.Path.{_≡_, ap, _∙_}
 use native.Mathlib.Omega.{arith}
 use borrow.Author.Needs.{needs}
 use Rattle.io.specs.Digits.{digits}
