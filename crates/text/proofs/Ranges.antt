@@ -39,15 +39,10 @@ every-at test lo (suc n) t {k} h l =
     ⊎-elim (λ (e : lo ≡ k). subst (λ (j : ℕ). T (test j)) e (and-left (test lo) (every test (suc lo) n) t))
     (λ (g : lo < k). every-at test (suc lo) n (and-right (test lo) (every test (suc lo) n) t) (omega arith) (omega arith)) (eq-or-lt-of-le h)
 
--- a test decides the class on an interval
-pub decided : (test class : ℕ → Bool) (lo n : ℕ) → T (every (λ k. agree (test k) (class k)) lo n) →
-    (b : ℕ) → (lo ≤ b) × (b < lo + n) → test b ≡ class b
-decided test class lo n t b h = agreed (test b) (class b) (every-at (λ k. agree (test k) (class k)) lo n t (h .0) (h .1))
-
 -- the class has one value on an interval
 pub within : (class : ℕ → Bool) (value : Bool) (lo n : ℕ) → T (every (λ k. agree value (class k)) lo n) →
     (b : ℕ) → (lo ≤ b) × (b < lo + n) → value ≡ class b
-within class value = decided (λ k. value) class
+within class value lo n t b h = agreed value (class b) (every-at (λ k. agree value (class k)) lo n t (h .0) (h .1))
 
 pub or-else : (a b : Bool) → T (a || b) → (T a → ⊥) → T b
 or-else true b t n = absurd (n tt)

@@ -56,10 +56,7 @@ pub fn is_space(b: u8) -> bool
 pub fn is_letter(b: u8) -> bool
     ensures { λ r. ⌜ r ≡ letter b ⌝ }
 {
-    match b {
-        b'A'..=b'Z' | b'a'..=b'z' => true,
-        _ => false,
-    }
+    ((b'A' <= b) & (b <= b'Z')) | ((b'a' <= b) & (b <= b'z'))
 }
 
 pub fn is_digit(b: u8) -> bool
@@ -89,15 +86,15 @@ pub fn is_hexadecimal(b: u8) -> bool
     }
 }
 
-// Small letters, of which words mostly consist, are decided first.
+// Letters, of which words mostly consist, are decided first.
 pub fn is_wordly(b: u8) -> bool
     ensures { λ r. ⌜ r ≡ wordly b ⌝ }
 {
-    if b'a' <= b {
-        return b <= b'z';
+    if is_letter(b) {
+        return true;
     }
     match b {
-        b'0'..=b'9' | b'A'..=b'Z' | b'_' => true,
+        b'0'..=b'9' | b'_' => true,
         _ => false,
     }
 }

@@ -20,13 +20,15 @@ loop-holds c = passed-none case-bytewise _ _ (c .before .before .pre)
 
 returns : tie.Need-returns Inv-loop μ-loop
 returns c =
-    passed-stop case-bytewise _ _ (c .before .before .before .before .before .before .before .before .before .pre) (c .before .before .before .before .before .loop-test .taken)
+    passed-stop case-bytewise _ _ (c .before .before .before .before .before .before .before .before .before .pre)
+    (c .before .before .before .before .before .loop-test .taken)
     (λ e. c .if1 .taken (c .before .before .before .lower .ensures ∙ e ∙ sym (c .before .lower2 .ensures)))
     (c .before .before .before .before .before .before .loop .inv)
 
 loop-again : tie.Need-loop-again Inv-loop μ-loop
 loop-again c =
-    passed-more case-bytewise _ _ (c .before .before .before .before .before .before .before .before .before .pre) (c .before .before .before .before .before .loop-test .taken)
+    passed-more case-bytewise _ _ (c .before .before .before .before .before .before .before .before .before .pre)
+    (c .before .before .before .before .before .loop-test .taken)
     (sym (c .before .before .before .lower .ensures) ∙ c .if1 .left ∙ c .before .lower2 .ensures)
     (c .before .before .before .before .before .before .loop .inv)
 
