@@ -20,9 +20,8 @@ returns c =
     let word2 = c .before .before .before .before .before .before .word2 in
     let leave = c .before .before .leave in
     frame 25 (enter .ensures)
-    (((word .ensures .reads) refl .at-any _ .in-any _) ▸ (param-type-spec .ensures .in-any _) ▸
-    ((word2 .ensures .reads) refl .at-any _ .in-any _) ▸ (leave .ensures .closes .wraps _ _))
-    (leave .ensures .joins)
+    ((word .ensures .reads) refl .at-any _ .in-any _ ▸ (param-type-spec .ensures .in-any _) ▸
+    (word2 .ensures .reads) refl .at-any _ .in-any _ ▸ (leave .ensures .closes .wraps _ _)) (leave .ensures .joins)
 
 pub init-param-decl-spec : {M : Type 1} → statement M
 init-param-decl-spec =

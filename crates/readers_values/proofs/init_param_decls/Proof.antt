@@ -4,24 +4,21 @@ use Rattle.prediction.specs.Check.{table}
 use Rattle.prediction.specs.Columns.{plan-at, round}
 use Rattle.prediction.specs.IdlPlans.{idl-prediction}
 use Rattle.readers_core.proofs.Frames.{frame}
-use Rattle.readers_core.proofs.Sequence.{_▸_}
+use Rattle.readers_interfaces.proofs.Lines.{_▸▸_, append}
 use borrow.Author.Needs.{needs}
 use Rattle.readers_values.proofs.init_param_decls.Statement.{statement}
 use Rattle.readers_values.proofs.init_param_decls.Tie as tie
 
 returns : tie.Need-returns
-unfolding table round plan-at idl-prediction
+unfolding table round plan-at idl-prediction append
 returns c =
-    let enter = c .before .before .before .before .before .before .before .before .before .before .before .before .enter in
-    let init-param-decl =
-    c .before .before .before .before .before .before .before .before .before .before .init-param-decl in
-    let further-init-params = c .before .before .before .before .before .before .further-init-params in
+    let enter = c .before .before .before .before .before .before .before .before .enter in
+    let listed-parameters = c .before .before .before .before .before .before .listed-parameters in
     let leave = c .before .before .leave in
-    frame 24 (enter .ensures)
-    ((init-param-decl .ensures .in-any _) ▸ (further-init-params .ensures .in-any _) ▸
-    (leave .ensures .closes .wraps _ _)) (leave .ensures .joins)
+    frame 24 (enter .ensures) ((listed-parameters .ensures .in-any _) ▸▸ (leave .ensures .closes .wraps _ _))
+    (leave .ensures .joins)
 
 pub init-param-decls-spec : {M : Type 1} → statement M
 init-param-decls-spec =
-    tie.close (tie.spec (λ c κs. search needs) (λ c κs. search needs) (λ c κs. search needs)
-    (λ c κs. search needs) (λ c. search needs) returns)
+    tie.close (tie.spec (λ c κs. search needs) (λ c κs. search needs) (λ c κs. search needs) (λ c. search needs)
+    returns)

@@ -5,6 +5,7 @@ use Rattle.prediction.specs.Columns.{plan-at, round}
 use Rattle.prediction.specs.IdlPlans.{idl-prediction}
 use Rattle.readers_core.proofs.Frames.{frame}
 use Rattle.readers_core.proofs.Sequence.{_▸_}
+use Rattle.readers_values.specs.Plans.{visibility}
 use borrow.Author.Needs.{needs}
 use Rattle.readers_values.proofs.state_member.Statement.{statement}
 use Rattle.readers_values.proofs.state_member.Tie as tie

@@ -1,4 +1,4 @@
--- `truncatable` reads by its plan: the kind ahead tells the choice.
+-- `truncatable` reads by its plan: the word or nothing.
 -- What the plan comes to is what was called. Assumes nothing.
 use Rattle.readers_core.proofs.Choosing.{Knows, among, choose, except}
 use Rattle.readers_core.proofs.Frames.{chosen}
@@ -12,11 +12,11 @@ returns : tie.Need-returns
 unfolding choose Knows
 returns c =
     let next-kind = c .before .before .next-kind in
-    let if1 = c .before .if1 in
+    let match-on = c .before .match in
     record {
       reads =
           λ d w. record {
-            in-any = λ start. chosen (among (56 ∷ [])) (next-kind .ensures) (if1 .taken)
+            in-any = λ start. chosen (among (56 ∷ [])) (next-kind .ensures) (match-on .keys1)
                 (c .take .ensures .reads _ _ .in-any _);
           };
     }
@@ -28,7 +28,7 @@ returns-2 c =
     record {
       reads =
           λ d w. record
-          { in-any = λ start. chosen (except ((56 ∷ []) ∷ [])) (next-kind .ensures) (tt, (c .if1 .left)) skipped };
+          { in-any = λ start. chosen (except ((56 ∷ []) ∷ [])) (next-kind .ensures) (c .match .rest) skipped };
     }
 
 pub truncatable-spec : {M : Type 1} → statement M

@@ -1,4 +1,4 @@
--- `visibility` reads by its plan: the kind ahead tells the choice.
+-- `visibility` reads by its plan: one of two words.
 -- What the plan comes to is what was called. Assumes nothing.
 use Rattle.readers_core.proofs.Choosing.{Knows, among, choose, except}
 use Rattle.readers_core.proofs.Frames.{chosen}
@@ -11,11 +11,11 @@ returns : tie.Need-returns
 unfolding choose Knows
 returns c =
     let next-kind = c .before .before .next-kind in
-    let if1 = c .before .if1 in
+    let match-on = c .before .match in
     record {
       reads =
           λ d w. record {
-            in-any = λ start. chosen (among (47 ∷ [])) (next-kind .ensures) (if1 .taken)
+            in-any = λ start. chosen (among (47 ∷ [])) (next-kind .ensures) (match-on .keys1)
                 (c .take .ensures .reads _ _ .in-any _);
           };
     }
@@ -24,15 +24,15 @@ returns-2 : tie.Need-returns-2
 unfolding choose Knows
 returns-2 c =
     let next-kind = c .before .before .next-kind in
-    let if1 = c .before .if1 in
+    let match-on = c .before .match in
     record {
       reads =
           λ d w. record {
-            in-any = λ start. chosen (except ((47 ∷ []) ∷ [])) (next-kind .ensures) (tt, (if1 .left))
+            in-any = λ start. chosen (except ((47 ∷ []) ∷ [])) (next-kind .ensures) (match-on .rest)
                 (c .take2 .ensures .reads _ _ .in-any _);
           };
     }
 
 pub visibility-spec : {M : Type 1} → statement M
 visibility-spec =
-    tie.close (tie.spec (λ c κs. search needs) (λ c κs. search needs) returns (λ c κs. search needs) returns-2)
+    tie.close (tie.spec (λ c κs. search needs) (λ c κs. search needs) (λ c κs. search needs) returns returns-2)

@@ -1,0 +1,28 @@
+-- Rules 11 and 20 are a scoped name alone, so that a scoped name is read as either.
+-- Computed from their plans; a node over exactly one other leaves no record. Assumes nothing.
+use Prim.Native.Nat.{ℕ}
+use mathlib.Core.Path.{refl, ap}
+use mathlib.Core.List.{List, []}
+use Rattle.grammar.specs.Idl.{idl}
+use Rattle.grammar.specs.Record.{recorded}
+use Rattle.prediction.specs.Plan.{Plan, call}
+use Rattle.prediction.specs.Columns.{plan-at, round}
+use Rattle.prediction.specs.Check.{table}
+use Rattle.prediction.specs.IdlPlans.{idl-prediction}
+use Rattle.prediction.specs.IdlChecked.{idl-table}
+use Rattle.readers_core.specs.Reading.{State, Reads}
+use Rattle.readers_core.proofs.Choosing.{Knows, except, choose}
+use Rattle.readers_core.proofs.Chain.{passed-on, single}
+use Rattle.readers_interfaces.specs.Plans.{Names}
+
+pub interface-names : Names 11
+unfolding table round plan-at idl-prediction recorded idl
+interface-names = record { plan-is = refl; no-record = tt }
+
+pub value-names : Names 20
+unfolding table round plan-at idl-prediction recorded idl
+value-names = record { plan-is = refl; no-record = tt }
+
+pub by-name : {n : ℕ} {ks : List ℕ} {d : ℕ} {s s′ : State} → Names n → Reads ks d (call 12) s s′ → Reads ks d (call n) s s′
+unfolding choose Knows single
+by-name {n} h x = passed-on n (except []) refl tt (ap (λ (p : Plan). choose idl-table (except []) p) (h .plan-is)) (h .no-record) x

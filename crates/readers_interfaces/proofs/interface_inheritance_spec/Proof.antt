@@ -1,0 +1,32 @@
+-- `interface_inheritance_spec` reads rule 10 in a frame of its own.
+-- Its calls are put together as its plan is. Assumes nothing.
+use Rattle.prediction.specs.Check.{table}
+use Rattle.prediction.specs.Columns.{plan-at, round}
+use Rattle.prediction.specs.IdlPlans.{idl-prediction}
+use Rattle.readers_core.proofs.Frames.{frame}
+use Rattle.readers_core.proofs.Sequence.{_▸_}
+use Rattle.readers_interfaces.proofs.Lines.{_▸▸_, append}
+use Rattle.readers_interfaces.proofs.Names.{interface-names}
+use borrow.Author.Needs.{needs}
+use Rattle.readers_interfaces.proofs.interface_inheritance_spec.Statement.{statement}
+use Rattle.readers_interfaces.proofs.interface_inheritance_spec.Tie as tie
+
+returns : tie.Need-returns
+unfolding table round plan-at idl-prediction append
+returns c =
+    let enter = c .before .before .before .before .before .before .before .before .before .enter in
+    let take = c .before .before .before .before .before .before .before .before .take in
+    let scoped-names = c .before .before .before .before .before .before .scoped-names in
+    let leave = c .before .before .leave in
+    record {
+      at-any =
+          λ d. frame 10 (enter .ensures)
+          ((take .ensures .reads _ _ .in-any _) ▸
+          ((scoped-names .ensures .by-rule) 11 interface-names .at-any d .in-any _ ▸▸
+          (leave .ensures .closes .wraps _ _))) (leave .ensures .joins);
+    }
+
+pub interface-inheritance-spec-spec : {M : Type 1} → statement M
+interface-inheritance-spec-spec =
+    tie.close (tie.spec (λ c κs. search needs) (λ c κs. search needs) (λ c κs. search needs)
+    (λ c κs. search needs) (λ c. search needs) returns)

@@ -1,0 +1,34 @@
+-- `braced_exports` reads exports between braces, at one level of depth less.
+-- By the opening mark: it stops there, or the body and its closing mark follow. Assumes nothing.
+use Rattle.prediction.specs.Equivalence.{opened}
+use Rattle.readers_core.proofs.Groups.{grouped, level, shut-out}
+use Rattle.readers_core.proofs.Sequence.{_▸_}
+use borrow.Author.Needs.{needs}
+use native.Mathlib.Omega.{arith}
+use Rattle.readers_values.proofs.braced_exports.Statement.{statement}
+use Rattle.readers_values.proofs.braced_exports.Tie as tie
+
+returns : tie.Need-returns
+returns c =
+    let opened = c .before .before .«open» in
+    record { in-any = λ start. shut-out (opened .ensures) (λ z. omega arith) }
+
+sub-exports : tie.Need-sub-exports
+sub-exports c =
+    let opened = c .before .before .before .«open» in
+    let h = level (opened .ensures) (omega arith) in omega arith
+
+returns-2 : tie.Need-returns-2
+returns-2 c =
+    let opened = c .before .before .before .before .before .before .before .«open» in
+    let exports = c .before .before .before .exports in
+    record {
+      in-any =
+          λ start. grouped (opened .ensures) (omega arith)
+          ((exports .ensures .in-any _) ▸ (c .take .ensures .reads _ _ .in-any _));
+    }
+
+pub braced-exports-spec : {M : Type 1} → statement M
+braced-exports-spec =
+    tie.close (tie.spec (λ c κs. search needs) returns sub-exports (λ c κs. search needs) (λ c κs. search needs)
+    (λ c. search needs) returns-2)

@@ -1,0 +1,22 @@
+-- `custom_value` reads by its plan: a value with a body.
+-- Its calls are put together as its plan is. Assumes nothing.
+use Rattle.readers_core.proofs.Sequence.{_▸_}
+use Rattle.readers_interfaces.proofs.Lines.{_▸▸_, append}
+use borrow.Author.Needs.{needs}
+use Rattle.readers_values.proofs.custom_value.Statement.{statement}
+use Rattle.readers_values.proofs.custom_value.Tie as tie
+
+returns : tie.Need-returns
+unfolding append
+returns c =
+    let take = c .before .before .before .before .before .before .before .before .before .take in
+    let take2 = c .before .before .before .before .before .before .before .before .take2 in
+    let value-dcl = c .before .before .before .before .before .before .value-dcl in
+    let close = c .before .before .close in
+    (take .ensures .reads _ _ .in-any _) ▸ (take2 .ensures .reads _ _ .in-any _) ▸
+    ((value-dcl .ensures) ▸▸ (close .ensures .wraps _ _))
+
+pub custom-value-spec : {M : Type 1} → statement M
+custom-value-spec =
+    tie.close (tie.spec (λ c κs. search needs) (λ c κs. search needs) (λ c κs. search needs)
+    (λ c κs. search needs) (λ c. search needs) returns)
