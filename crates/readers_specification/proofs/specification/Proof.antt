@@ -1,0 +1,25 @@
+-- `specification` reads rule 1 in a frame of its own: its record is always written.
+-- Its calls are put together as its plan is. Assumes nothing.
+use Rattle.prediction.specs.Check.{table}
+use Rattle.prediction.specs.Columns.{plan-at, round}
+use Rattle.prediction.specs.IdlPlans.{idl-prediction}
+use Rattle.readers_core.proofs.Frames.{frame}
+use Rattle.readers_interfaces.proofs.Lines.{_▸▸_, append}
+use Rattle.readers_specification.specs.Plans.{definitions}
+use borrow.Author.Needs.{needs}
+use Rattle.readers_specification.proofs.specification.Statement.{statement}
+use Rattle.readers_specification.proofs.specification.Tie as tie
+
+returns : tie.Need-returns
+unfolding table round plan-at idl-prediction append
+returns c =
+    let enter = c .before .before .before .before .before .before .before .before .enter in
+    let definitions = c .before .before .before .before .before .before .definitions in
+    let leave = c .before .before .leave in
+    frame 1 (enter .ensures) ((definitions .ensures .in-any _) ▸▸ (leave .ensures .closes .wraps _ _))
+    (leave .ensures .joins)
+
+pub specification-spec : {M : Type 1} → statement M
+specification-spec =
+    tie.close (tie.spec (λ c κs. search needs) (λ c κs. search needs) (λ c κs. search needs) (λ c. search needs)
+    returns)
