@@ -1,0 +1,85 @@
+-- The tree part's answer in each of its ways out: a bad call, or the reading concluded.
+-- What was tested decides whether the call is good; a good call is judged by every meaning of its tokens.
+use Prim.Native.Nat.{ℕ, _*_, _≤_, _<_}
+use mathlib.Core.Path.{_≡_, refl, sym, _∙_}
+use mathlib.Core.Bool.{Bool, true, false, _&&_, cond, true≢false, false≢true}
+use mathlib.Core.List.{List, map}
+use native.Mathlib.Omega.{arith}
+use borrow.Author.Tests.{le-leb, lt-leb, leb-true}
+use lib.Dec.{leb}
+use lib.ListN.{length, take}
+use lib.Seq.{length-take-le}
+use Rattle.grammar.specs.Idl.{idl}
+use Rattle.limits.specs.declared.Limits.{Limits}
+use Rattle.limits.specs.declared.Bounded.{Bounded}
+use Rattle.limits.specs.declared.Bounded.the-variants.{Good, Beyond}
+use Rattle.limits.specs.Limits.{good-text, good-depth, good-call, bounded}
+use Rattle.limits.specs.Laws.{beyond-bad, within-good}
+use Rattle.prediction.specs.Plan.{call}
+use Rattle.replies.specs.declared.Reply.{Reply}
+use Rattle.replies.specs.Replies.{outside-limits}
+use Rattle.tables.specs.Tables.{capacity, token-width}
+use Rattle.tables.specs.Laws.{capacity-fits}
+use Rattle.meaning.specs.Calls.{good-tree-call, TreeAnswered}
+use Rattle.readers_core.specs.declared.Reading.{Reading}
+use Rattle.readers_core.specs.Reading.{Reads}
+use Rattle.tree.specs.Conclusion.{concluded, kept-tree}
+use Rattle.tree.proofs.Judged.{beginning, Right, judged}
+
+and-false : (a : Bool) → (a && false) ≡ false
+and-false true = refl
+and-false false = refl
+
+and-left : (a b : Bool) → (a && b) ≡ true → a ≡ true
+and-left true b e = refl
+and-left false b e = absurd (false≢true e)
+
+module _ (most deepest : ℕ) (tokens : List ℕ) (count text : ℕ) (tree : List ℕ) (setting : ℕ) where
+  -- a bad call
+  refused : good-tree-call most deepest tokens count text setting ≡ false → {reply : Reply} → reply ≡ outside-limits →
+      TreeAnswered idl most deepest tokens count text tree setting reply tree
+  refused b e = record { outside = λ u. (e, refl); inside = λ u. absurd (true≢false (sym u ∙ b)) }
+
+  pub beyond : {r : Bounded} {reply : Reply} → r ≡ bounded most deepest text setting → r ≡ Beyond → reply ≡ outside-limits →
+      TreeAnswered idl most deepest tokens count text tree setting reply tree
+  beyond a b e = refused (rw (beyond-bad most deepest text setting a b)) e
+
+  pub too-many : {reply : Reply} → capacity token-width tokens < count → reply ≡ outside-limits →
+      TreeAnswered idl most deepest tokens count text tree setting reply tree
+  too-many h e = refused (rw (lt-leb count (capacity token-width tokens) h) (and-false (good-call most deepest text setting))) e
+
+  pub too-short : {reply : Reply} → text < count → reply ≡ outside-limits →
+      TreeAnswered idl most deepest tokens count text tree setting reply tree
+  too-short h e =
+      refused
+      (rw (lt-leb count text h, and-false (leb count (capacity token-width tokens))) (and-false (good-call most deepest text setting))) e
+
+  -- a good call
+  module _ {r : Bounded} {l : Limits} (a : r ≡ bounded most deepest text setting) (b : r ≡ Good l) (few : count ≤ capacity token-width tokens)
+      (inside : count ≤ text) (ceiling : most ≤ 1048576) where
+    good : good-call most deepest text setting ≡ true
+    good = within-good most deepest text setting a b
+
+    pub text-small : text ≤ 1048576
+    text-small =
+        let h = leb-true text most (and-left (good-text most text) (good-depth deepest setting) good) in
+        omega arith
+
+    pub list-short : length (take (token-width * count) tokens) ≤ 3145728
+    list-short =
+        let h = text-small in
+        let f = length-take-le (token-width * count) tokens (capacity-fits token-width tokens count few) in
+        omega arith
+
+    pub answered : {s : Reading} {w : List ℕ} {reply : Reply} {tree′ : List ℕ} → length w ≡ length tree →
+        Reads (take (token-width * count) tokens) setting (call 1) (beginning, tree) (s, w) →
+        reply ≡ concluded (take (token-width * count) tokens) w count text s → tree′ ≡ kept-tree w count s →
+        TreeAnswered idl most deepest tokens count text tree setting reply tree′
+    answered {s} {w} same reads e f = record {
+      outside = λ u. absurd (true≢false (sym (rw (good, le-leb count (capacity token-width tokens) few, le-leb count text inside)) ∙ u));
+      inside = λ u sense m.
+          let h = text-small in
+          let right =
+          judged tokens count text setting (capacity-fits token-width tokens count few) (omega arith) tree w same s reads sense m in
+          (e ∙ right .said, f ∙ right .table);
+    }

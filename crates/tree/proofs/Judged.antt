@@ -1,0 +1,174 @@
+-- The reading of a whole list, concluded, is the verdict of every meaning of its tokens.
+-- Each outcome says what the list is by the rules; nothing counted reaches the ceiling, since records are bounded by the tokens.
+use Prim.Native.Nat.{ℕ, zero, suc, _+_, _*_, _≤_, _<_, min}
+use mathlib.Core.Path.{_≡_, refl, ap, sym, _∙_, subst, fun-ext}
+use mathlib.Core.Bool.{Bool, true, false, not, cond}
+use mathlib.Core.List.{List, [], _∷_, map}
+use native.Mathlib.Omega.{arith}
+use borrow.Author.Tests.{lt-ltb, le-ltb, eq-eqb, ne-eqb}
+use lib.Dec.{T, eqb, ltb, ltb→lt, nltb→le}
+use lib.ListN.{length, getD, take, length-map}
+use Rattle.grammar.specs.Derivation as grammar
+use Rattle.grammar.specs.Derivation.{Derivation}
+use Rattle.grammar.specs.Forest.{Forest, end}
+use Rattle.grammar.specs.Idl.{idl}
+use Rattle.grammar.specs.Record.{TreeRecord, tree-record, records}
+use Rattle.prediction.specs.IdlChecked.{idl-checked, idl-table}
+use Rattle.prediction.specs.Plan.{call}
+use Rattle.prediction.specs.Run.{Outcome, done, blame, deep, Runs}
+use Rattle.prediction.specs.Theorems.{records-bounded}
+use Rattle.prediction.specs.Verdict.{Says, says-derived, says-more, says-blamed, says-deep, says}
+use Rattle.replies.specs.declared.Reply.{Reply}
+use Rattle.tables.specs.Tables.{capacity, store, zeroed, Records, token-width, node-width}
+use Rattle.tables.specs.Laws.{store-front, capacity-fits}
+use Rattle.meaning.specs.Sense.{Sense, Means, kind, numbers, tree-records}
+use Rattle.meaning.specs.Laws.{four-wide}
+use Rattle.meaning.specs.Verdict as verdict
+use Rattle.meaning.specs.Verdict.{Verdict, verdict}
+use Rattle.meaning.specs.Answer.{place, tree-reply, tree-after}
+use Rattle.meaning.specs.Calls.{first-records}
+use Rattle.verdicts.specs.Outcomes.{of-outcome, outcome-verdict}
+use Rattle.readers_core.specs.declared.Reading.{Reading}
+use Rattle.readers_core.specs.Reading.{kind-at, ceiling, counted, write, writes, State, Held, Ends, ends-done, ends-blame, ends-deep, Ran, Reads}
+use Rattle.readers_core.proofs.Holding.{held-none}
+use Rattle.readers_core.proofs.Storing.{write-below}
+use Rattle.tree.specs.Conclusion.{complete, concluded, kept-tree}
+use Rattle.tree.proofs.Lists.{length-records, kinds-listed, places-listed}
+
+-- below the ceiling records are written as any table stores them
+writes-stored : (w : List ℕ) (n : ℕ) (rs : List TreeRecord) → n + length rs ≤ ceiling → writes w n rs ≡ store node-width w n (map numbers rs)
+unfolding writes store
+writes-stored w n [] h = refl
+writes-stored w n (tree-record a b c d ∷ rs) h =
+    writes-stored (write w n (tree-record a b c d)) (suc n) rs (omega arith)
+    ∙ ap (λ (v : List ℕ). store node-width v (suc n) (map numbers rs)) (sym (write-below w n a b c d (omega arith)))
+
+zeroed-same : (w w′ : List ℕ) → length w′ ≡ length w → zeroed w′ ≡ zeroed w
+zeroed-same w w′ e = rw e
+
+-- a reader's state before anything is read
+abbrev pub beginning : Reading
+beginning = record { answer = 0; at = 0; count = 0; shape = 0 }
+
+module _ (tokens : List ℕ) (count text depth : ℕ) (fits : token-width * count ≤ length tokens) (few : count ≤ 1048576) where
+  abbrev pub list : List ℕ
+  list = take (token-width * count) tokens
+
+  abbrev pub ts : List (List ℕ)
+  ts = first-records token-width count tokens
+
+  abbrev pub kinds : List ℕ
+  kinds = map kind ts
+
+  count-is : length kinds ≡ count
+  unfolding kinds ts
+  count-is = length-map ts kind ∙ length-records token-width count tokens
+
+  -- what the state s and the table w′ answer, for a tree table w before
+  pub record Right (w w′ : List ℕ) (s : Reading) (v : Verdict) : Type 0 where
+    pub said : concluded list w′ count text s ≡ tree-reply text ts v
+    pub table : kept-tree w′ count s ≡ tree-after v w
+
+  module _ (w w′ : List ℕ) (same : length w′ ≡ length w) (s : Reading) where
+    abbrev pub room : ℕ
+    room = capacity node-width w
+
+    -- a refusal for the grammar or for depth
+    blamed-right : (q : ℕ) → complete count s ≡ false → eqb (s .answer) 8 ≡ false → s .at ≡ q → Right w w′ s (verdict.grammar q)
+    unfolding concluded kept-tree tree-reply tree-after list ts
+    blamed-right q c a e = record {
+      said = simp (c, a, e, places-listed count tokens fits text q, length-records token-width count tokens);
+      table = simp (c, zeroed-same w w′ same);
+    }
+
+    deep-right : (q : ℕ) → complete count s ≡ false → eqb (s .answer) 8 ≡ true → s .at ≡ q → Right w w′ s (verdict.deep q)
+    unfolding concluded kept-tree tree-reply tree-after list ts
+    deep-right q c a e = record {
+      said = simp (c, a, e, places-listed count tokens fits text q, length-records token-width count tokens);
+      table = simp (c, zeroed-same w w′ same);
+    }
+
+    -- the whole list is derived
+    module _ (g : Forest) (whole : complete count s ≡ true) (d : Derivation idl kinds g) (held : Held (beginning, w) g (s, w′)) where
+      size-is : length (tree-records idl g) ≡ length (records idl 0 g)
+      unfolding tree-records
+      size-is = length-map (records idl 0 g) numbers
+
+      -- nothing counted reaches the ceiling
+      small : length (records idl 0 g) ≤ 33554432
+      small = let h = records-bounded idl-checked kinds g d in let e = count-is in omega arith
+
+      counted-is : s .count ≡ length (tree-records idl g)
+      counted-is = let e = held .count-is in let z = size-is in let h = small in omega arith
+
+      stored-is : w′ ≡ store node-width w 0 (tree-records idl g)
+      unfolding tree-records
+      stored-is = held .table-is ∙ writes-stored w 0 (records idl 0 g) (let h = small in omega arith)
+
+      rooms : capacity node-width w′ ≡ room
+      unfolding room
+      rooms = rw same
+
+      full-right : room < length (tree-records idl g) → Right w w′ s (verdict.full (length (tree-records idl g)))
+      unfolding concluded kept-tree tree-reply tree-after ts
+      full-right h = record {
+        said = simp (whole, rooms, counted-is, lt-ltb room (length (tree-records idl g)) h, length-records token-width count tokens);
+        table = simp (whole, rooms, counted-is, lt-ltb room (length (tree-records idl g)) h, zeroed-same w w′ same);
+      }
+
+      four-rs : Records node-width (tree-records idl g)
+      unfolding tree-records
+      four-rs = four-wide (records idl 0 g)
+
+      accepted-right : length (tree-records idl g) ≤ room → Right w w′ s (verdict.accepted (tree-records idl g))
+      unfolding concluded kept-tree tree-reply tree-after ts room
+      accepted-right h = record {
+        said = simp (whole, rooms, counted-is, le-ltb room (length (tree-records idl g)) h, length-records token-width count tokens);
+        table =
+            simp (whole, rooms, counted-is, le-ltb room (length (tree-records idl g)) h)
+            (stored-is ∙ store-front node-width w four-rs (capacity-fits node-width w (length (tree-records idl g)) h));
+      }
+
+      derived-right : Right w w′ s (cond (ltb room (length (tree-records idl g))) (verdict.full (length (tree-records idl g))) (verdict.accepted (tree-records idl g)))
+      derived-right = pick (ltb room (length (tree-records idl g))) (ltb→lt room (length (tree-records idl g))) (nltb→le room (length (tree-records idl g)))
+        where
+          pick : (b : Bool) → (T b → room < length (tree-records idl g)) → (T (not b) → length (tree-records idl g) ≤ room) →
+              Right w w′ s (cond b (verdict.full (length (tree-records idl g))) (verdict.accepted (tree-records idl g)))
+          pick true x y = full-right (x tt)
+          pick false x y = accepted-right (y tt)
+
+    done-here : s .answer ≡ 0 → s .at ≡ count → complete count s ≡ true
+    unfolding complete
+    done-here a e = simp (eq-eqb (s .answer) 0 a, eq-eqb (s .at) count e)
+
+    done-early : s .answer ≡ 0 → (s .at ≡ count → ⊥) → complete count s ≡ false
+    unfolding complete
+    done-early a e = simp (eq-eqb (s .answer) 0 a, ne-eqb (s .at) count e)
+
+    stopped-here : (s .answer ≡ 0 → ⊥) → complete count s ≡ false
+    unfolding complete
+    stopped-here a = simp (ne-eqb (s .answer) 0 a)
+
+    outcome-right : {x : Outcome} → Says idl depth kinds x → Ends (beginning, w) end (beginning, w) (s, w′) x →
+        Right w w′ s (of-outcome idl (length kinds) room x)
+    unfolding of-outcome tree-records
+    outcome-right (says-derived {g} {j} e d i) (ends-done a p h) =
+        let whole = done-here a (omega (arith, count-is)) in
+        rw (eq-eqb j (length kinds) e) (derived-right g whole d (h (held-none (beginning, w) (omega arith))))
+    outcome-right (says-more {g} {j} l b i) (ends-done a p h) =
+        let n : j ≡ length kinds → ⊥ = λ e. omega arith in
+        rw (ne-eqb j (length kinds) n)
+        (blamed-right j (done-early a (λ e. omega (arith, count-is))) (ne-eqb (s .answer) 8 (λ e. omega arith)) p)
+    outcome-right (says-blamed {q} b i) (ends-blame a p) =
+        blamed-right q (stopped-here (λ e. omega arith)) (ne-eqb (s .answer) 8 (λ e. omega arith)) p
+    outcome-right (says-deep {q} l v t) (ends-deep a p) = deep-right q (stopped-here (λ e. omega arith)) (eq-eqb (s .answer) 8 a) p
+
+    -- so whatever the list means, the reading concluded is its verdict
+    pub judged : Reads list depth (call 1) (beginning, w) (s, w′) → (sense : Sense) → Means idl kinds sense →
+        Right w w′ s (verdict depth room kinds sense)
+    unfolding idl list kinds ts
+    judged r sense m =
+        let ran = r .in-any beginning .does (beginning, w) refl refl .runs refl end in
+        let run = subst (λ (k : ℕ → ℕ). Runs idl-table k depth (call 1) 0 end (ran .outcome)) (fun-ext (kinds-listed count tokens fits)) (ran .run) in
+        let e = outcome-verdict idl-checked depth room kinds (says idl-checked depth kinds (ran .outcome) run) m in
+        subst (λ (v : Verdict). Right w w′ s v) e (outcome-right (says idl-checked depth kinds (ran .outcome) run) (ran .ends))

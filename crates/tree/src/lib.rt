@@ -1,0 +1,77 @@
+// The tree part: the tree of the tokens in a lent table, or the token that is blamed.
+ghost use mathlib.Core.Path.{_≡_};
+ghost use Rattle.tree.specs.Conclusion.{place-in, complete, concluded, kept-tree};
+ghost use Rattle.grammar.specs.Idl.{idl};
+ghost use Rattle.meaning.specs.Calls.{TreeAnswered};
+use limits::Bounded;
+use limits::Limits;
+use readers_core::Reading;
+use readers_specification::specification;
+use replies::Reply;
+use tables::clear;
+
+// The place of token i of the list: its first byte, or the text's length past the last token.
+fn place_of(list: &[u32], text: u32, i: u32) -> u32
+    ensures { λ r. ⌜ r ≡ place-in (now (list .entry)) text i ⌝ }
+{
+    let at = 3 * (i as usize) + 1;
+    if at < list.len() { list[at] } else { text }
+}
+
+// Whether the whole list is read.
+fn is_complete(count: u32, s: Reading) -> bool
+    ensures { λ r. ⌜ r ≡ complete count s ⌝ }
+{
+    if s.answer != 0 {
+        return false;
+    }
+    s.at == count
+}
+
+// What the state in which reading has ended answers. A refusal clears the tree table.
+fn conclude(list: &[u32], count: u32, text: u32, tree: &mut [u32], s: Reading) -> Reply
+    ensures reply { λ r. ⌜ r ≡ concluded (now (list .entry)) (now (tree .entry)) count text s ⌝ }
+    ensures table { λ _. ⌜ now (tree .exit) ≡ kept-tree (now (tree .entry)) count s ⌝ }
+{
+    if is_complete(count, s) {
+        if (tree.len() / 4) < (s.count as usize) {
+            clear(tree);
+            return Reply::more_records(text, count, s.count);
+        }
+        return Reply::accepted(text, count, s.count);
+    }
+    clear(tree);
+    let place = place_of(list, text, s.at);
+    if s.answer == 8 {
+        return Reply::too_deep(place, count);
+    }
+    Reply::grammar(place, count)
+}
+
+// The tree part, on a token table that it only reads, for a text of this length.
+pub fn read_tree(tokens: &[u32], count: usize, text: usize, tree: &mut [u32], depth: u32) -> Reply
+    ensures { λ r. do
+      most ← ⟦Limits::TEXT⟧ .entry
+      deepest ← ⟦Limits::DEPTH⟧ .entry
+      ⌜ TreeAnswered idl most deepest (now (tokens .entry)) count text (now (tree .entry)) depth r (now (tree .exit)) ⌝ }
+{
+    let limits = Limits::new(text, depth);
+    let Bounded::Good(_) = limits else {
+        return Reply::outside_limits();
+    };
+    if tokens.len() / 3 < count {
+        return Reply::outside_limits();
+    }
+    if text < count {
+        return Reply::outside_limits();
+    }
+    let list = &tokens[..3 * count];
+    let beginning = Reading {
+        answer: 0,
+        at: 0,
+        count: 0,
+        shape: 0,
+    };
+    let end = specification(list, tree, beginning, depth);
+    conclude(list, count as u32, text as u32, tree, end)
+}
