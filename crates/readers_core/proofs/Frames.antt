@@ -1,6 +1,6 @@
 -- Readers of a whole rule: what a choice comes to as the next kind tells, and a frame of its own for the rule.
 -- A frame is entered with nothing and left behind its caller's forest; a stopped state passes. Assumes nothing.
-use Prim.Native.Nat.{ℕ, zero, suc, _*_, _<_}
+use Prim.Native.Nat.{ℕ, zero, suc, _+_, _*_, _^_, _<_}
 use native.Mathlib.Omega.{arith}
 use mathlib.Core.Path.{_≡_, refl, ap, sym, _∙_, subst}
 use mathlib.Core.Bool.{Bool, true, false, not, cond}
@@ -36,10 +36,10 @@ ahead-none ks s n = go (eqb (s .answer) 0) (eqb→eq (s .answer) 0)
     go false u = refl
 
 -- a token that is there stands in the table
-pub in-table : (ks : List ℕ) (i k : ℕ) → Short ks → 0 < k → kind-at ks i ≡ k → i < 1048576
+pub in-table : (ks : List ℕ) (i k : ℕ) → Short ks → 0 < k → kind-at ks i ≡ k → i + 1 < 2 ^ 32
 in-table ks i k h z e = go (decide (ltb (3 * i) (length ks)))
   where
-    go : T (ltb (3 * i) (length ks)) ⊎ T (not (ltb (3 * i) (length ks))) → i < 1048576
+    go : T (ltb (3 * i) (length ks)) ⊎ T (not (ltb (3 * i) (length ks))) → i + 1 < 2 ^ 32
     go (inl u) = let l = ltb→lt (3 * i) (length ks) u in omega arith
     go (inr u) = let x = List·getD-eq-default ks 0 (nltb→le (3 * i) (length ks) u) in absurd (omega arith)
 

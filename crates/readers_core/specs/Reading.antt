@@ -1,6 +1,6 @@
 -- A reader's state with the tree table, and what reading by a plan makes of it: one relation for every reader.
 -- Assumes nothing: these are definitions.
-use Prim.Native.Nat.{ℕ, suc, _+_, _*_, _-_, _≤_, _<_, min}
+use Prim.Native.Nat.{ℕ, suc, _+_, _*_, _-_, _≤_, _<_, _^_, min}
 use mathlib.Core.Path.{_≡_}
 use mathlib.Core.Bool.{Bool, true, false, cond}
 use mathlib.Core.List.{List, [], _∷_}
@@ -23,9 +23,9 @@ kind-at tokens i = getD tokens (token-width * i) 0
 abbrev pub ahead : List ℕ → Reading → ℕ
 ahead tokens s = cond (eqb (s .answer) 0) (kind-at tokens (s .at)) 0
 
--- a token table of at most 1,048,576 tokens
+-- a token table whose places fit 32 bits
 abbrev pub Short : List ℕ → Type 0
-Short tokens = length tokens ≤ 3145728
+Short tokens = length tokens < 2 ^ 32
 
 -- a count of records stays where it fills its number
 abbrev pub ceiling : ℕ

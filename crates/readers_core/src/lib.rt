@@ -1,7 +1,7 @@
 // A reader's state, and what every reader is made of: tokens, marks that open, rules begun and ended.
 // A state that has stopped passes through every reader unchanged, so that readers are straight lines.
 ghost use mathlib.Core.Path.{_≡_};
-ghost use Prim.Native.Nat.{_+_, _<_};
+ghost use Prim.Native.Nat.{_+_, _<_, _^_};
 ghost use Rattle.grammar.specs.Idl.{idl};
 ghost use Rattle.grammar.specs.Record.{recorded};
 ghost use Rattle.prediction.specs.Plan.{token};
@@ -43,7 +43,7 @@ pub fn next_kind(tokens: &[u32], s: Reading) -> u32
 
 // The state after the next token, in a rule that then has more than one node.
 fn past(s: Reading) -> Reading
-    requires { ⌜ s .at < 1048576 ⌝ }
+    requires { ⌜ s .at + 1 < 2 ^ 32 ⌝ }
     ensures { λ r. ⌜ r ≡ onward s ⌝ }
 {
     Reading {

@@ -1,6 +1,6 @@
 -- The tree part's answer in each of its ways out: a bad call, or the reading concluded.
 -- What was tested decides whether the call is good; a good call is judged by every meaning of its tokens.
-use Prim.Native.Nat.{ℕ, _*_, _≤_, _<_}
+use Prim.Native.Nat.{ℕ, _*_, _^_, _≤_, _<_}
 use mathlib.Core.Path.{_≡_, refl, sym, _∙_}
 use mathlib.Core.Bool.{Bool, true, false, _&&_, cond, true≢false, false≢true}
 use mathlib.Core.List.{List, map}
@@ -56,16 +56,16 @@ module _ (most deepest : ℕ) (tokens : List ℕ) (count text : ℕ) (tree : Lis
 
   -- a good call
   module _ {r : Bounded} {l : Limits} (a : r ≡ bounded most deepest text setting) (b : r ≡ Good l) (few : count ≤ capacity token-width tokens)
-      (inside : count ≤ text) (ceiling : most ≤ 1048576) where
+      (inside : count ≤ text) (ceiling : most < 2 ^ 27) where
     good : good-call most deepest text setting ≡ true
     good = within-good most deepest text setting a b
 
-    pub text-small : text ≤ 1048576
+    pub text-small : text < 2 ^ 27
     text-small =
         let h = leb-true text most (and-left (good-text most text) (good-depth deepest setting) good) in
         omega arith
 
-    pub list-short : length (take (token-width * count) tokens) ≤ 3145728
+    pub list-short : length (take (token-width * count) tokens) < 2 ^ 32
     list-short =
         let h = text-small in
         let f = length-take-le (token-width * count) tokens (capacity-fits token-width tokens count few) in

@@ -1,6 +1,6 @@
 -- The reading of a whole list, concluded, is the verdict of every meaning of its tokens.
 -- Each outcome says what the list is by the rules; nothing counted reaches the ceiling, since records are bounded by the tokens.
-use Prim.Native.Nat.{ℕ, zero, suc, _+_, _*_, _≤_, _<_, min}
+use Prim.Native.Nat.{ℕ, suc, _+_, _*_, _^_, _≤_, _<_}
 use mathlib.Core.Path.{_≡_, refl, ap, sym, _∙_, subst, fun-ext}
 use mathlib.Core.Bool.{Bool, true, false, not, cond}
 use mathlib.Core.List.{List, [], _∷_, map}
@@ -50,7 +50,7 @@ zeroed-same w w′ e = rw e
 abbrev pub beginning : Reading
 beginning = record { answer = 0; at = 0; count = 0; shape = 0 }
 
-module _ (tokens : List ℕ) (count text depth : ℕ) (fits : token-width * count ≤ length tokens) (few : count ≤ 1048576) where
+module _ (tokens : List ℕ) (count text depth : ℕ) (fits : token-width * count ≤ length tokens) (few : count < 2 ^ 27) where
   abbrev pub list : List ℕ
   list = take (token-width * count) tokens
 
@@ -95,7 +95,7 @@ module _ (tokens : List ℕ) (count text depth : ℕ) (fits : token-width * coun
       size-is = length-map (records idl 0 g) numbers
 
       -- nothing counted reaches the ceiling
-      small : length (records idl 0 g) ≤ 33554432
+      small : length (records idl 0 g) ≤ ceiling
       small = let h = records-bounded idl-checked kinds g d in let e = count-is in omega arith
 
       counted-is : s .count ≡ length (tree-records idl g)
