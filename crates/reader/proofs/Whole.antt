@@ -93,7 +93,8 @@ module _ (most deepest setting : ℕ) (text table tree : List ℕ) {r : Bounded}
       cap : ℕ
       cap = capacity token-width table
 
-      go : (b : Bool) → room table ts ≡ b → ((cond b (rows.accepted (length text) (length ts) 0) (rows.more-tokens (length text) (length ts))) .number ≡ 0 → ⊥) →
+      go : (b : Bool) → room table ts ≡ b →
+          ((cond b (rows.accepted (length text) (length ts) 0) (rows.more-tokens (length text) (length ts))) .number ≡ 0 → ⊥) →
           Right (cond b (rows.accepted (length text) (length ts) 0) (rows.more-tokens (length text) (length ts)))
           (cond b (front token-width ts table) (zeroed table)) (zeroed tree) (read ts s)
       go true u n = absurd (n refl)

@@ -129,7 +129,9 @@ module _ (tokens : List ℕ) (count text depth : ℕ) (fits : token-width * coun
             (stored-is ∙ store-front node-width w four-rs (capacity-fits node-width w (length (tree-records idl g)) h));
       }
 
-      derived-right : Right w w′ s (cond (ltb room (length (tree-records idl g))) (verdict.full (length (tree-records idl g))) (verdict.accepted (tree-records idl g)))
+      derived-right :
+          Right w w′ s
+          (cond (ltb room (length (tree-records idl g))) (verdict.full (length (tree-records idl g))) (verdict.accepted (tree-records idl g)))
       derived-right = pick (ltb room (length (tree-records idl g))) (ltb→lt room (length (tree-records idl g))) (nltb→le room (length (tree-records idl g)))
         where
           pick : (b : Bool) → (T b → room < length (tree-records idl g)) → (T (not b) → length (tree-records idl g) ≤ room) →

@@ -7,19 +7,56 @@ use Rattle.reader.proofs.read.Statement.{statement}
 use Rattle.reader.proofs.read.Tie as tie
 
 returns : tie.Need-returns
-returns c = beyond _ _ (c .before .before .before .before .before .before .before .args .depth) (c .before .before .before .before .before .before .before .args .text .now) (c .before .before .before .before .before .before .before .args .tokens .now) (c .before .before .before .before .before .before .before .args .tree .now) (c .before .before .before .new .ensures) (c .before .enum-told2 .given .1) (c .outside-limits .ensures)
+returns c =
+    let at-new = c .before .before .before in
+    let at-args = at-new .before .before .before .before in
+    beyond _ _ (at-args .args .depth) (at-args .args .text .now) (at-args .args .tokens .now)
+    (at-args .args .tree .now) (at-new .new .ensures) (c .before .enum-told2 .given .1)
+    (c .outside-limits .ensures)
 
 returns-2 : tie.Need-returns-2
-returns-2 c = refused _ _ (c .before .before .before .before .before .before .before .before .before .before .before .before .before .before .before .before .args .depth) (c .before .before .before .before .before .before .before .before .before .before .before .before .before .before .before .before .args .text .now) (c .before .before .before .before .before .before .before .before .before .before .before .before .before .before .before .before .args .tokens .now) (c .before .before .before .before .before .before .before .before .before .before .before .before .before .before .before .before .args .tree .now) (c .before .before .before .before .before .before .before .before .before .before .before .before .new .ensures) (c .before .before .before .before .before .before .before .before .before .before .enum-told .given .1) (c .before .before .before .before .before .before .before .before .read-tokens .ensures .0) (c .before .before .before .before .before .before .before .before .read-tokens .ensures .1) (c .before .before .before .before .if1 .taken) (c .before .before .clear .ensures)
+returns-2 c =
+    let at-clear = c .before .before in
+    let at-if1 = at-clear .before .before in
+    let at-read-tokens = at-if1 .before .before .before .before in
+    let at-enum-told = at-read-tokens .before .before in
+    let at-new = at-enum-told .before .before in
+    let at-args = at-new .before .before .before .before in
+    refused _ _ (at-args .args .depth) (at-args .args .text .now) (at-args .args .tokens .now)
+    (at-args .args .tree .now) (at-new .new .ensures) (at-enum-told .enum-told .given .1)
+    (at-read-tokens .read-tokens .ensures .0) (at-read-tokens .read-tokens .ensures .1) (at-if1 .if1 .taken)
+    (at-clear .clear .ensures)
 
 read-tree-requires : tie.Need-read-tree-requires
 read-tree-requires c κs = search needs
 
 returns-3 : tie.Need-returns-3
-returns-3 c = accepted _ _ (c .before .before .before .before .before .before .before .before .before .before .before .before .before .before .before .before .before .before .before .before .args .depth) (c .before .before .before .before .before .before .before .before .before .before .before .before .before .before .before .before .before .before .before .before .args .text .now) (c .before .before .before .before .before .before .before .before .before .before .before .before .before .before .before .before .before .before .before .before .args .tokens .now) (c .before .before .before .before .before .before .before .before .before .before .before .before .before .before .before .before .before .before .before .before .args .tree .now) (c .before .before .before .before .before .before .before .before .before .before .before .before .before .before .before .before .new .ensures) (c .before .before .before .before .before .before .before .before .before .before .before .before .before .before .enum-told .given .1) (c .before .before .before .before .before .before .before .before .before .before .before .before .read-tokens .ensures .0) (c .before .before .before .before .before .before .before .before .before .before .before .before .read-tokens .ensures .1) (omega arith) (c .before .before .before .before .before .before .index .ensures) (c .before .before .before .before .read-tree .ensures) (c .if2 .taken)
+returns-3 c =
+    let at-read-tree = c .before .before .before .before in
+    let at-index = at-read-tree .before .before in
+    let at-read-tokens = at-index .before .before .before .before .before .before in
+    let at-enum-told = at-read-tokens .before .before in
+    let at-new = at-enum-told .before .before in
+    let at-args = at-new .before .before .before .before in
+    accepted _ _ (at-args .args .depth) (at-args .args .text .now) (at-args .args .tokens .now)
+    (at-args .args .tree .now) (at-new .new .ensures) (at-enum-told .enum-told .given .1)
+    (at-read-tokens .read-tokens .ensures .0) (at-read-tokens .read-tokens .ensures .1) (omega arith)
+    (at-index .index .ensures) (at-read-tree .read-tree .ensures) (c .if2 .taken)
 
 returns-4 : tie.Need-returns-4
-returns-4 c = denied _ _ (c .before .before .before .before .before .before .before .before .before .before .before .before .before .before .before .before .before .before .before .before .before .before .before .before .args .depth) (c .before .before .before .before .before .before .before .before .before .before .before .before .before .before .before .before .before .before .before .before .before .before .before .before .args .text .now) (c .before .before .before .before .before .before .before .before .before .before .before .before .before .before .before .before .before .before .before .before .before .before .before .before .args .tokens .now) (c .before .before .before .before .before .before .before .before .before .before .before .before .before .before .before .before .before .before .before .before .before .before .before .before .args .tree .now) (c .before .before .before .before .before .before .before .before .before .before .before .before .before .before .before .before .before .before .before .before .new .ensures) (c .before .before .before .before .before .before .before .before .before .before .before .before .before .before .before .before .before .before .enum-told .given .1) (c .before .before .before .before .before .before .before .before .before .before .before .before .before .before .before .before .read-tokens .ensures .0) (c .before .before .before .before .before .before .before .before .before .before .before .before .before .before .before .before .read-tokens .ensures .1) (omega arith) (c .before .before .before .before .before .before .before .before .before .before .index .ensures) (c .before .before .before .before .before .before .before .before .read-tree .ensures) (c .before .before .before .before .if2 .left) (c .before .before .clear2 .ensures)
+returns-4 c =
+    let at-clear2 = c .before .before in
+    let at-if2 = at-clear2 .before .before in
+    let at-read-tree = at-if2 .before .before .before .before in
+    let at-index = at-read-tree .before .before in
+    let at-read-tokens = at-index .before .before .before .before .before .before in
+    let at-enum-told = at-read-tokens .before .before in
+    let at-new = at-enum-told .before .before in
+    let at-args = at-new .before .before .before .before in
+    denied _ _ (at-args .args .depth) (at-args .args .text .now) (at-args .args .tokens .now)
+    (at-args .args .tree .now) (at-new .new .ensures) (at-enum-told .enum-told .given .1)
+    (at-read-tokens .read-tokens .ensures .0) (at-read-tokens .read-tokens .ensures .1) (omega arith)
+    (at-index .index .ensures) (at-read-tree .read-tree .ensures) (at-if2 .if2 .left) (at-clear2 .clear2 .ensures)
 
 pub read-spec : {M : Type 1} → statement M
 read-spec =

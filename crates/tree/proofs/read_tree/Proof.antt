@@ -9,28 +9,78 @@ use Rattle.tree.proofs.read_tree.Statement.{statement}
 use Rattle.tree.proofs.read_tree.Tie as tie
 
 returns : tie.Need-returns
-returns c = beyond _ _ (c .before .before .before .before .before .before .args .tokens .now) (c .before .before .before .before .before .before .args .count) (c .before .before .before .before .before .before .args .text) (c .before .before .before .before .before .before .args .tree .now) (c .before .before .before .before .before .before .args .depth) (c .before .before .before .new .ensures) (c .before .enum-told2 .given .1) (c .outside-limits .ensures)
+returns c =
+    let at-new = c .before .before .before in
+    let at-args = at-new .before .before .before in
+    beyond _ _ (at-args .args .tokens .now) (at-args .args .count) (at-args .args .text) (at-args .args .tree .now)
+    (at-args .args .depth) (at-new .new .ensures) (c .before .enum-told2 .given .1) (c .outside-limits .ensures)
 
 returns-2 : tie.Need-returns-2
-returns-2 c = too-many _ _ (c .before .before .before .before .before .before .before .args .tokens .now) (c .before .before .before .before .before .before .before .args .count) (c .before .before .before .before .before .before .before .args .text) (c .before .before .before .before .before .before .before .args .tree .now) (c .before .before .before .before .before .before .before .args .depth) (c .before .if1 .taken) (c .outside-limits2 .ensures)
+returns-2 c =
+    let at-args = c .before .before .before .before .before .before .before in
+    too-many _ _ (at-args .args .tokens .now) (at-args .args .count) (at-args .args .text)
+    (at-args .args .tree .now) (at-args .args .depth) (c .before .if1 .taken) (c .outside-limits2 .ensures)
 
 returns-3 : tie.Need-returns-3
-returns-3 c = too-short _ _ (c .before .before .before .before .before .before .before .before .args .tokens .now) (c .before .before .before .before .before .before .before .before .args .count) (c .before .before .before .before .before .before .before .before .args .text) (c .before .before .before .before .before .before .before .before .args .tree .now) (c .before .before .before .before .before .before .before .before .args .depth) (c .before .if2 .taken) (c .outside-limits3 .ensures)
+returns-3 c =
+    let at-args = c .before .before .before .before .before .before .before .before in
+    too-short _ _ (at-args .args .tokens .now) (at-args .args .count) (at-args .args .text)
+    (at-args .args .tree .now) (at-args .args .depth) (c .before .if2 .taken) (c .outside-limits3 .ensures)
 
 slice-aggregate-list : tie.Need-slice-aggregate-list
 slice-aggregate-list c = sym (length-take-le _ _ (omega arith))
 
 specification-requires : tie.Need-specification-requires
-specification-requires c κs = list-short _ _ (c .before .before .before .before .before .before .before .before .before .args .tokens .now) (c .before .before .before .before .before .before .before .before .before .args .count) (c .before .before .before .before .before .before .before .before .before .args .text) (c .before .before .before .before .before .before .before .before .before .args .tree .now) (c .before .before .before .before .before .before .before .before .before .args .depth) (c .before .before .before .before .before .before .new .ensures) (c .before .before .before .before .enum-told .given .1) (c .before .before .before .if1 .left) (c .before .before .if2 .left) (omega arith)
+specification-requires c κs =
+    let at-if2 = c .before .before in
+    let at-if1 = at-if2 .before in
+    let at-enum-told = at-if1 .before in
+    let at-new = at-enum-told .before .before in
+    let at-args = at-new .before .before .before in
+    list-short _ _ (at-args .args .tokens .now) (at-args .args .count) (at-args .args .text)
+    (at-args .args .tree .now) (at-args .args .depth) (at-new .new .ensures) (at-enum-told .enum-told .given .1)
+    (at-if1 .if1 .left) (at-if2 .if2 .left) (omega arith)
 
 cast-conclude : tie.Need-cast-conclude
-cast-conclude c = omega (arith, text-small _ _ (c .before .before .before .before .before .before .before .before .before .before .before .before .args .tokens .now) (c .before .before .before .before .before .before .before .before .before .before .before .before .args .count) (c .before .before .before .before .before .before .before .before .before .before .before .before .args .text) (c .before .before .before .before .before .before .before .before .before .before .before .before .args .tree .now) (c .before .before .before .before .before .before .before .before .before .before .before .before .args .depth) (c .before .before .before .before .before .before .before .before .before .new .ensures) (c .before .before .before .before .before .before .before .enum-told .given .1) (c .before .before .before .before .before .before .if1 .left) (c .before .before .before .before .before .if2 .left) (omega arith))
+cast-conclude c =
+    let at-if2 = c .before .before .before .before .before in
+    let at-if1 = at-if2 .before in
+    let at-enum-told = at-if1 .before in
+    let at-new = at-enum-told .before .before in
+    let at-args = at-new .before .before .before in
+    omega (
+      arith,
+      text-small _ _ (at-args .args .tokens .now) (at-args .args .count) (at-args .args .text) (at-args .args .tree .now) (at-args .args .depth)
+          (at-new .new .ensures) (at-enum-told .enum-told .given .1) (at-if1 .if1 .left) (at-if2 .if2 .left) (omega arith),
+    )
 
 cast-conclude-2 : tie.Need-cast-conclude-2
-cast-conclude-2 c = omega (arith, text-small _ _ (c .before .before .before .before .before .before .before .before .before .before .before .before .args .tokens .now) (c .before .before .before .before .before .before .before .before .before .before .before .before .args .count) (c .before .before .before .before .before .before .before .before .before .before .before .before .args .text) (c .before .before .before .before .before .before .before .before .before .before .before .before .args .tree .now) (c .before .before .before .before .before .before .before .before .before .before .before .before .args .depth) (c .before .before .before .before .before .before .before .before .before .new .ensures) (c .before .before .before .before .before .before .before .enum-told .given .1) (c .before .before .before .before .before .before .if1 .left) (c .before .before .before .before .before .if2 .left) (omega arith))
+cast-conclude-2 c =
+    let at-if2 = c .before .before .before .before .before in
+    let at-if1 = at-if2 .before in
+    let at-enum-told = at-if1 .before in
+    let at-new = at-enum-told .before .before in
+    let at-args = at-new .before .before .before in
+    omega (
+      arith,
+      text-small _ _ (at-args .args .tokens .now) (at-args .args .count) (at-args .args .text) (at-args .args .tree .now) (at-args .args .depth)
+          (at-new .new .ensures) (at-enum-told .enum-told .given .1) (at-if1 .if1 .left) (at-if2 .if2 .left) (omega arith),
+    )
 
 returns-4 : tie.Need-returns-4
-returns-4 c = answered _ _ (c .before .before .before .before .before .before .before .before .before .before .before .before .before .before .before .before .args .tokens .now) (c .before .before .before .before .before .before .before .before .before .before .before .before .before .before .before .before .args .count) (c .before .before .before .before .before .before .before .before .before .before .before .before .before .before .before .before .args .text) (c .before .before .before .before .before .before .before .before .before .before .before .before .before .before .before .before .args .tree .now) (c .before .before .before .before .before .before .before .before .before .before .before .before .before .before .before .before .args .depth) (c .before .before .before .before .before .before .before .before .before .before .before .before .before .new .ensures) (c .before .before .before .before .before .before .before .before .before .before .before .enum-told .given .1) (c .before .before .before .before .before .before .before .before .before .before .if1 .left) (c .before .before .before .before .before .before .before .before .before .if2 .left) (omega arith) (c .before .before .before .before .before .before .specification .kept .1 .0) (c .before .before .before .before .before .before .specification .ensures) (c .before .before .conclude .ensures .0) (c .before .before .conclude .ensures .1)
+returns-4 c =
+    let at-conclude = c .before .before in
+    let at-specification = at-conclude .before .before .before .before in
+    let at-if2 = at-specification .before .before .before in
+    let at-if1 = at-if2 .before in
+    let at-enum-told = at-if1 .before in
+    let at-new = at-enum-told .before .before in
+    let at-args = at-new .before .before .before in
+    answered _ _ (at-args .args .tokens .now) (at-args .args .count) (at-args .args .text)
+    (at-args .args .tree .now) (at-args .args .depth) (at-new .new .ensures) (at-enum-told .enum-told .given .1)
+    (at-if1 .if1 .left) (at-if2 .if2 .left) (omega arith) (at-specification .specification .kept .1 .0)
+    (at-specification .specification .ensures) (at-conclude .conclude .ensures .0)
+    (at-conclude .conclude .ensures .1)
 
 pub read-tree-spec : {M : Type 1} → statement M
 read-tree-spec =
