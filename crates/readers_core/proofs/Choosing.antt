@@ -209,6 +209,16 @@ repeat-on s {i = i} (among ks) h a u (run-seq-stop r z) =
     run-more-stop (subset-in (s i) ks (first idl-table a) u (any-elem ks (s i) h)) r z
 repeat-on s {i = i} (except arms) h a u r = absurd u
 
+-- and each run of a repetition that goes on begins with a turn
+pub repeat-once : (s : ℕ → ℕ) {d i : ℕ} (k : Known) → Knows k (s i) → (a : Plan) {f : Forest} {x : Outcome} →
+    T (goes-on idl-table k a) → Runs idl-table s d (many a) i f x → Runs idl-table s d (seq a (many a)) i f x
+unfolding goes-on Knows
+repeat-once s {i = i} (among ks) h a u (run-last v) =
+    absurd (T-not (elem (s i) (first idl-table a)) v (subset-in (s i) ks (first idl-table a) u (any-elem ks (s i) h)))
+repeat-once s (among ks) h a u (run-more v r r′) = run-seq r r′
+repeat-once s (among ks) h a u (run-more-stop v r z) = run-seq-stop r z
+repeat-once s (except arms) h a u r = absurd u
+
 pub repeat-over : (s : ℕ → ℕ) {d i : ℕ} (k : Known) → Knows k (s i) → (a : Plan) {f : Forest} {x : Outcome} →
     T (is-over idl-table k a) → Runs idl-table s d skip i f x → Runs idl-table s d (many a) i f x
 unfolding is-over Knows

@@ -1,37 +1,34 @@
 -- Readers of a whole rule: what a choice comes to as the next kind tells, and a frame of its own for the rule.
--- A frame is entered with nothing and left behind its caller's forest; a stopped state passes. Assumes nothing.
+-- A frame begins with nothing and ends as one node behind its caller's forest; a stopped state passes. Assumes nothing.
 use Prim.Native.Nat.{ℕ, zero, suc, _+_, _*_, _^_, _<_}
 use native.Mathlib.Omega.{arith}
-use mathlib.Core.Path.{_≡_, refl, ap, sym, _∙_, subst}
+use mathlib.Core.Path.{_≡_, refl, sym, _∙_, subst}
 use mathlib.Core.Bool.{Bool, true, false, not, cond}
-use mathlib.Core.List.{List}
+use mathlib.Core.List.{List, [], _∷_}
 use mathlib.Core.Logic.{_⊎_, inl, inr}
 use lib.Dec.{T, eqb, eqb→eq, ltb, ltb→lt, nltb→le}
 use lib.ListN.{length, List·getD-eq-default}
 use Rattle.prediction.specs.Sets.{decide}
-use Rattle.prediction.specs.Plan.{Plan, call, token}
-use Rattle.prediction.specs.Run.{Runs}
+use Rattle.prediction.specs.Plan.{Plan, call, token, seq, wrap}
+use Rattle.grammar.specs.Forest.{Forest}
+use Rattle.prediction.specs.Run.{Outcome, Runs, run-seq, run-seq-stop}
 use Rattle.prediction.specs.IdlChecked.{idl-table}
-use Rattle.readers_core.specs.Reading.{kind-at, ahead, Short, State, Does, Within, Reads, entered, left}
-use Rattle.readers_core.specs.declared.Reading.{Reading}
-use Rattle.readers_core.proofs.Holding.{beside-none}
-use Rattle.readers_core.proofs.Sequence.{does-call, does-stays}
+use Rattle.readers_core.specs.Reading.{kind-at, ahead, Short, view, State, Seen, Does, From, Reads, none-recorded}
+use Rattle.readers_core.proofs.Shapes.{leaves}
+use Rattle.readers_core.proofs.Sequence.{does-call, does-stays, _▸_, unrecorded}
 use Rattle.readers_core.proofs.Choosing.{Known, Knows, choose, run-chosen, one-of, run-one-of}
 
 pub going : (n : ℕ) → (n ≡ 0) ⊎ (n ≡ 0 → ⊥)
 going zero = inl refl
 going (suc n) = inr (λ e. omega arith)
 
-abbrev pub shaped : Reading → ℕ → Reading
-shaped s n = record { answer = s .answer; at = s .at; count = s .count; shape = n }
-
-pub ahead-kind : (ks : List ℕ) (s : Reading) → s .answer ≡ 0 → ahead ks s ≡ kind-at ks (s .at)
+pub ahead-kind : (ks : List ℕ) (s : ℕ) → view s .answer ≡ 0 → ahead ks s ≡ kind-at ks (view s .at)
 ahead-kind ks s e = rw e
 
-pub ahead-none : (ks : List ℕ) (s : Reading) → (s .answer ≡ 0 → ⊥) → 0 ≡ ahead ks s
-ahead-none ks s n = go (eqb (s .answer) 0) (eqb→eq (s .answer) 0)
+pub ahead-none : (ks : List ℕ) (s : ℕ) → (view s .answer ≡ 0 → ⊥) → 0 ≡ ahead ks s
+ahead-none ks s n = go (eqb (view s .answer) 0) (eqb→eq (view s .answer) 0)
   where
-    go : (x : Bool) → (T x → s .answer ≡ 0) → 0 ≡ cond x (kind-at ks (s .at)) 0
+    go : (x : Bool) → (T x → view s .answer ≡ 0) → 0 ≡ cond x (kind-at ks (view s .at)) 0
     go true u = absurd (n (u tt))
     go false u = refl
 
@@ -44,78 +41,71 @@ in-table ks i k h z e = go (decide (ltb (3 * i) (length ks)))
     go (inr u) = let x = List·getD-eq-default ks 0 (nltb→le (3 * i) (length ks) u) in absurd (omega arith)
 
 -- what a plan comes to, as the next kind tells
-pub chosen : {ks : List ℕ} {d x : ℕ} {p : Plan} {start : Reading} {s s′ : State} (k : Known) →
-    x ≡ ahead ks (s .0) → Knows k x → Within ks d start (choose idl-table k p) s s′ → Within ks d start p s s′
-chosen {ks} {d} {x} {p} {start} {s} k e h y = record {
+pub chosen : {ks : List ℕ} {d x : ℕ} {p : Plan} {start : ℕ} {hs : List ℕ} {s s′ : State} (k : Known) →
+    x ≡ ahead ks (s .0) → Knows k x → From ks d start hs (choose idl-table k p) s s′ → From ks d start hs p s s′
+chosen {ks} {d} {x} {p} {start} {hs} {s} k e h y = record {
   does = λ b i j. record {
     stays = y .does b i j .stays;
-    runs = λ z f.
-        let r = y .does b i j .runs z f in
+    runs = λ z f v.
+        let r = y .does b i j .runs z f v in
         let known = subst (λ (n : ℕ). Knows k n) (e ∙ ahead-kind ks (s .0) z) h in
         record { outcome = r .outcome; run = run-chosen (kind-at ks) k known p (r .run); ends = r .ends };
   };
 }
 
--- a choice between tokens, of which the next is one
-pub taken-of : {ks : List ℕ} {d x : ℕ} {p : Plan} {start : Reading} {s s′ : State} (k : Known) → x ≡ ahead ks (s .0) →
-    Knows k x → T (one-of k p) → Within ks d start (token x) s s′ → Within ks d start p s s′
-taken-of {ks} {d} {x} {p} {start} {s} k e h u y = record {
+-- a choice between tokens, of which the next is one, and what stands behind it
+pub taken-of : {ks : List ℕ} {d x : ℕ} {p q : Plan} {start : ℕ} {hs : List ℕ} {s s′ : State} (k : Known) →
+    x ≡ ahead ks (s .0) → Knows k x → T (one-of k p) → From ks d start hs (seq (token x) q) s s′ →
+    From ks d start hs (seq p q) s s′
+taken-of {ks} {d} {x} {p} {q} {start} {hs} {s} {s′} k e h u y = record {
   does = λ b i j. record {
     stays = y .does b i j .stays;
-    runs = λ z f.
-        let r = y .does b i j .runs z f in
-        let here = e ∙ ahead-kind ks (s .0) z in
-        let known = subst (λ (n : ℕ). Knows k n) here h in
-        let run = subst (λ (n : ℕ). Runs idl-table (kind-at ks) d (token n) (s .0 .at) f (r .outcome)) here (r .run) in
-        record { outcome = r .outcome; run = run-one-of (kind-at ks) k known p u run; ends = r .ends };
+    runs = λ z f v. let r = y .does b i j .runs z f v in
+        record { outcome = r .outcome; run = first z (r .run); ends = r .ends };
   };
 }
-
--- the next kind is the same where a frame begins
-pub still : (ks : List ℕ) (s : Reading) {b : Reading} {x : ℕ} → b ≡ entered s → x ≡ ahead ks s → x ≡ ahead ks b
-still ks s e h = h ∙ sym (ap (λ (r : Reading). ahead ks r) e)
-
--- what was read from the beginning of a frame, `b`, was read in the frame that began there
-pub from-start : {ks : List ℕ} {d : ℕ} {p : Plan} {s b : Reading} {x y : State} → b ≡ entered s → Within ks d b p x y →
-    Within ks d s p x y
-from-start e w = record {
-  does = λ c i j.
-      w .does c (i ∙ sym (ap (λ (r : Reading). r .at) e)) (j ∙ sym (ap (λ (r : Reading). r .count) e));
-}
-
--- a frame of its own: `b` is its beginning, `u` its end
-pub frame : (m : ℕ) {ks : List ℕ} {d : ℕ} {s b u o : Reading} {w w′ : List ℕ} → b ≡ entered s →
-    Within ks d s (idl-table .plan m) (b, w) (u, w′) → o ≡ left s u → Reads ks d (call m) (s, w) (o, w′)
-frame m {ks} {d} {s} {b} {u} {o} {w} {w′} e x j =
-    record { in-any = λ start. record { does = λ c _ _. go c (going (s .answer)) } }
   where
-    inner : Does ks d (idl-table .plan m) (entered s, w) (entered s, w) (u, w′)
-    inner =
-        subst (λ (z : Reading). Does ks d (idl-table .plan m) (entered s, w) (z, w) (u, w′)) e
-        (x .does (entered s, w) refl refl)
+    one : {f : Forest} {o : Outcome} → view (s .0) .answer ≡ 0 → Runs idl-table (kind-at ks) d (token x) (view (s .0) .at) f o →
+        Runs idl-table (kind-at ks) d p (view (s .0) .at) f o
+    one {f} {o} z r =
+        let here = e ∙ ahead-kind ks (s .0) z in
+        run-one-of (kind-at ks) k (subst (λ (n : ℕ). Knows k n) here h) p u
+        (subst (λ (n : ℕ). Runs idl-table (kind-at ks) d (token n) (view (s .0) .at) f o) here r)
 
-    passed : (s .answer ≡ 0 → ⊥) → _≡_ {A = State} (o, w′) (s, w)
-    passed n =
-        let q = inner .stays n in
-        let a : u ≡ entered s = ap (λ (z : State). z .0) q in
-        let z : w′ ≡ w = ap (λ (z : State). z .1) q in
-        let y : o ≡ s = j ∙ ap (λ (t : Reading). left s t) a ∙ ap (λ (n : ℕ). shaped s n) (beside-none (s .shape)) in
-        cc
+    first : {f : Forest} {o : Outcome} → view (s .0) .answer ≡ 0 →
+        Runs idl-table (kind-at ks) d (seq (token x) q) (view (s .0) .at) f o → Runs idl-table (kind-at ks) d (seq p q) (view (s .0) .at) f o
+    first z (run-seq r r′) = run-seq (one z r) r′
+    first z (run-seq-stop r c) = run-seq-stop (one z r) c
 
-    go : (c : State) → (s .answer ≡ 0) ⊎ (s .answer ≡ 0 → ⊥) → Does ks d (call m) c (s, w) (o, w′)
-    go c (inl z) =
-        subst (λ (t : Reading). Does ks d (call m) c (s, w) (t, w′)) (sym j)
-        (does-call m {s = (s, w)} {t = (u, w′)} z inner)
-    go c (inr n) = subst (λ (t : State). Does ks d (call m) c (s, w) t) (sym (passed n)) (does-stays n)
+-- a frame of its own, from `s` to `u`
+pub frame : (m : ℕ) {ks : List ℕ} {d s u : ℕ} {w w′ : List ℕ} →
+    From ks d s (0 ∷ []) (idl-table .plan m) (s, w) (u, w′) → Reads ks d (call m) (s, w) (u, w′)
+frame m {ks} {d} {s} {u} {w} {w′} x =
+    record { in-any = λ start hs. record { does = λ c _ _. go c hs (going (view s .answer)) } }
+  where
+    inner : Does ks d (0 ∷ []) (idl-table .plan m) (view s, w) (view s, w) (view u, w′)
+    inner = x .does (view s, w) refl refl
+
+    go : (c : Seen) (hs : List ℕ) → (view s .answer ≡ 0) ⊎ (view s .answer ≡ 0 → ⊥) →
+        Does ks d hs (call m) c (view s, w) (view u, w′)
+    go c hs (inl z) = does-call m z inner
+    go c hs (inr n) = does-stays n (inner .stays n)
 
 -- the same, for a rule whose plan is p
-pub frame-by : (m : ℕ) {p : Plan} {ks : List ℕ} {d : ℕ} {s b u o : Reading} {w w′ : List ℕ} → idl-table .plan m ≡ p →
-    b ≡ entered s → Within ks d s p (b, w) (u, w′) → o ≡ left s u → Reads ks d (call m) (s, w) (o, w′)
-frame-by m {p} {ks} {d} {s} {b} {u} {o} {w} {w′} q e x j =
-    frame m e (subst (λ (z : Plan). Within ks d s z (b, w) (u, w′)) (sym q) x) j
+pub frame-by : (m : ℕ) {p : Plan} {ks : List ℕ} {d s u : ℕ} {w w′ : List ℕ} → idl-table .plan m ≡ p →
+    From ks d s (0 ∷ []) p (s, w) (u, w′) → Reads ks d (call m) (s, w) (u, w′)
+frame-by m {p} {ks} {d} {s} {u} {w} {w′} q x =
+    frame m (subst (λ (z : Plan). From ks d s (0 ∷ []) z (s, w) (u, w′)) (sym q) x)
 
 -- the same, with what its plan comes to as the next kind tells
-pub frame-on : (m : ℕ) {ks : List ℕ} {d x : ℕ} {s b u o : Reading} {w w′ : List ℕ} (k : Known) → x ≡ ahead ks s →
-    Knows k x → b ≡ entered s → Within ks d s (choose idl-table k (idl-table .plan m)) (b, w) (u, w′) → o ≡ left s u →
-    Reads ks d (call m) (s, w) (o, w′)
-frame-on m {ks} k e h q y j = frame m q (chosen k (e ∙ sym (ap (λ (r : Reading). ahead ks r) q)) h y) j
+pub frame-on : (m : ℕ) {ks : List ℕ} {d x s u : ℕ} {w w′ : List ℕ} (k : Known) → x ≡ ahead ks s → Knows k x →
+    From ks d s (0 ∷ []) (choose idl-table k (idl-table .plan m)) (s, w) (u, w′) → Reads ks d (call m) (s, w) (u, w′)
+frame-on m k e h y = frame m (chosen k e h y)
+
+-- a rule whose right side is here exactly one nonterminal leaves no record: it is read as that nonterminal
+pub passed-on : (m : ℕ) {q : Plan} {ks : List ℕ} {d x s u : ℕ} {w w′ : List ℕ} (k : Known) → x ≡ ahead ks s →
+    Knows k x → choose idl-table k (idl-table .plan m) ≡ seq q (wrap m) → T (none-recorded m (leaves q (0 ∷ []))) →
+    Reads ks d q (s, w) (u, w′) → Reads ks d (call m) (s, w) (u, w′)
+passed-on m {q} {ks} {d} {x} {s} {u} {w} {w′} k e h c t y =
+    frame-on m k e h
+    (subst (λ (p : Plan). From ks d s (0 ∷ []) p (s, w) (u, w′)) (sym c) (y .in-any s (0 ∷ []) ▸ unrecorded t))

@@ -1,8 +1,9 @@
+pub mod Views
 pub mod Storing
 pub mod Holding
+pub mod Shapes
 pub mod Sequence
 pub mod Choosing
 pub mod Frames
-pub mod Chain
 pub mod Groups
 pub mod Repetition

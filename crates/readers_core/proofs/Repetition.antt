@@ -9,26 +9,29 @@ use mathlib.Core.Logic.{_⊎_, inl, inr}
 use lib.Dec.{T, T-not, eqb, eqb→eq, ltb, ltb→lt, nltb→le}
 use lib.ListN.{length, List·getD-eq-default}
 use Rattle.grammar.specs.Forest.{end}
+use Rattle.grammar.specs.Record.{shape}
 use Rattle.grammar.specs.Sets.{elem}
 use Rattle.prediction.specs.Sets.{and-left, and-right, decide}
-use Rattle.prediction.specs.Plan.{Plan, many}
+use Rattle.prediction.specs.Plan.{Plan, many, seq}
 use Rattle.prediction.specs.Typing.{null}
 use Rattle.prediction.specs.Look.{Look, look-nothing, look-some, look}
 use Rattle.prediction.specs.Run.{Outcome, done, blame, deep, Runs, sound}
 use Rattle.prediction.specs.Check.{all-typed}
 use Rattle.prediction.specs.IdlChecked.{idl-checked, idl-table}
-use Rattle.readers_core.specs.Reading.{kind-at, ahead, State, Ends, ends-done, ends-blame, ends-deep, Within}
-use Rattle.readers_core.specs.declared.Reading.{Reading}
+use Rattle.readers_core.specs.Reading.{kind-at, ahead, view, State, Seen, seen, Ends, ends-done, ends-blame}
+use Rattle.readers_core.specs.Reading.{ends-deep, From}
+use Rattle.readers_core.proofs.Shapes.{leaves}
 use Rattle.readers_core.proofs.Sequence.{_▸_, skipped}
 use Rattle.readers_core.proofs.Choosing.{Known, among, except, Knows, goes-on, is-over, any-elem, repeat-on}
-use Rattle.readers_core.proofs.Choosing.{repeat-over}
+use Rattle.readers_core.proofs.Choosing.{repeat-over, repeat-once}
 use Rattle.readers_core.proofs.Frames.{ahead-kind, going}
 
 -- the repetition so far: whatever the rest of it does from here, the whole does from its start
-pub record Far (ks : List ℕ) (d : ℕ) (start : Reading) (a : Plan) (s s′ : State) : Type 0 where
-  pub on : (s″ : State) → Within ks d start (many a) s′ s″ → Within ks d start (many a) s s″
+pub record Far (ks : List ℕ) (d start : ℕ) (a : Plan) (s s′ : State) : Type 0 where
+  pub on : (s″ : State) → ((hs : List ℕ) → From ks d start hs (many a) s′ s″) → (hs : List ℕ) →
+      From ks d start hs (many a) s s″
 
-pub far-here : {ks : List ℕ} {d : ℕ} {start : Reading} {a : Plan} {s : State} → Far ks d start a s s
+pub far-here : {ks : List ℕ} {d start : ℕ} {a : Plan} {s : State} → Far ks d start a s s
 far-here = record { on = λ s″ x. x }
 
 -- a plan that reads at least one token begins here
@@ -42,37 +45,42 @@ unfolding repeats
 repeats-on (among ks) a u = and-left (goes-on idl-table (among ks) a) (not (null idl-table a) && not (elem 0 ks)) u
 repeats-on (except arms) a u = absurd u
 
--- once more
-pub far-more : {ks : List ℕ} {d x : ℕ} {start : Reading} {a : Plan} {s s′ s″ : State} (k : Known) →
-    x ≡ ahead ks (s′ .0) → Knows k x → T (repeats k a) →
-    Within ks d start a s′ s″ → Far ks d start a s s′ → Far ks d start a s s″
-far-more {ks} {d} {x} {start} {a} {s} {s′} {s″} k e h u y far = record {
-  on = λ t z. far .on t (record {
-    does = λ b i j.
-        let v = (y ▸ z) .does b i j in
-        record {
-          stays = v .stays;
-          runs = λ g f. let r = v .runs g f in
-              record {
-                outcome = r .outcome;
-                run =
-                    repeat-on (kind-at ks) k (subst (λ (n : ℕ). Knows k n) (e ∙ ahead-kind ks (s′ .0) g) h) a
-                    (repeats-on k a u) (r .run);
-                ends = r .ends;
-              };
-        };
-  });
-}
-
--- and no more
-pub far-over : {ks : List ℕ} {d x : ℕ} {start : Reading} {a : Plan} {s s′ : State} (k : Known) → x ≡ ahead ks (s′ .0) →
-    Knows k x → T (is-over idl-table k a) → Far ks d start a s s′ → Within ks d start (many a) s s′
-far-over {ks} {d} {x} {start} {a} {s} {s′} k e h u far = far .on s′ (record {
+-- where it goes on, one or more are as many as there are
+pub repeated : {ks : List ℕ} {d x start : ℕ} {hs : List ℕ} {a : Plan} {s s′ : State} (k : Known) →
+    x ≡ ahead ks (s .0) → Knows k x → T (repeats k a) → From ks d start hs (seq a (many a)) s s′ →
+    From ks d start hs (many a) s s′
+repeated {ks} {a = a} {s = s} k e h u y = record {
   does = λ b i j.
-      let v = skipped {ks = ks} {d = d} {start = start} {s = s′} .does b i j in
+      let v = y .does b i j in
       record {
         stays = v .stays;
-        runs = λ g f. let r = v .runs g f in
+        runs = λ g f q. let r = v .runs g f q in
+            record {
+              outcome = r .outcome;
+              run =
+                  repeat-on (kind-at ks) k (subst (λ (n : ℕ). Knows k n) (e ∙ ahead-kind ks (s .0) g) h) a
+                  (repeats-on k a u) (r .run);
+              ends = r .ends;
+            };
+      };
+}
+
+-- once more
+pub far-more : {ks : List ℕ} {d x start : ℕ} {a : Plan} {s s′ s″ : State} (k : Known) → x ≡ ahead ks (s′ .0) →
+    Knows k x → T (repeats k a) → ((hs : List ℕ) → From ks d start hs a s′ s″) → Far ks d start a s s′ →
+    Far ks d start a s s″
+far-more {a = a} k e h u y far =
+    record { on = λ t z. far .on t (λ hs. repeated k e h u (y hs ▸ z (leaves a hs))) }
+
+-- and no more
+pub far-over : {ks : List ℕ} {d x start : ℕ} {a : Plan} {s s′ : State} (k : Known) → x ≡ ahead ks (s′ .0) →
+    Knows k x → T (is-over idl-table k a) → Far ks d start a s s′ → (hs : List ℕ) → From ks d start hs (many a) s s′
+far-over {ks} {d} {x} {start} {a} {s} {s′} k e h u far = far .on s′ (λ hs. record {
+  does = λ b i j.
+      let v = skipped {ks = ks} {d = d} {hs = hs} {start = start} {s = s′} .does b i j in
+      record {
+        stays = v .stays;
+        runs = λ g f q. let r = v .runs g f q in
             record {
               outcome = r .outcome;
               run =
@@ -83,9 +91,25 @@ far-over {ks} {d} {x} {start} {a} {s} {s′} k e h u far = far .on s′ (record 
       };
 })
 
+-- a repetition that goes on reads one at least
+pub once-at-least : {ks : List ℕ} {d x start : ℕ} {hs : List ℕ} {a : Plan} {s s′ : State} (k : Known) →
+    x ≡ ahead ks (s .0) → Knows k x → T (goes-on idl-table k a) → From ks d start hs (many a) s s′ →
+    From ks d start hs (seq a (many a)) s s′
+once-at-least {ks} {a = a} {s = s} k e h u y = record {
+  does = λ b i j. record {
+    stays = y .does b i j .stays;
+    runs = λ g f q. let r = y .does b i j .runs g f q in
+        record {
+          outcome = r .outcome;
+          run = repeat-once (kind-at ks) k (subst (λ (n : ℕ). Knows k n) (e ∙ ahead-kind ks (s .0) g) h) a u (r .run);
+          ends = r .ends;
+        };
+  };
+}
+
 -- what is left to read: it falls with each turn of a repetition
-abbrev pub remaining : List ℕ → Reading → ℕ
-remaining ks s = cond (eqb (s .answer) 0) (suc (length ks - s .at)) 0
+abbrev pub remaining : List ℕ → ℕ → ℕ
+remaining ks s = cond (eqb (view s .answer) 0) (suc (length ks - view s .at)) 0
 
 within : (ks : List ℕ) (i : ℕ) → (kind-at ks i ≡ 0 → ⊥) → i < length ks
 within ks i n = go (decide (ltb (3 * i) (length ks)))
@@ -94,46 +118,108 @@ within ks i n = go (decide (ltb (3 * i) (length ks)))
     go (inl u) = let h = ltb→lt (3 * i) (length ks) u in omega arith
     go (inr u) = absurd (n (List·getD-eq-default ks 0 (nltb→le (3 * i) (length ks) u)))
 
-moves-on : {ks : List ℕ} {d : ℕ} {start : Reading} {a : Plan} {s s′ : State} → T (not (null idl-table a)) →
-    (ahead ks (s .0) ≡ 0 → ⊥) → Within ks d start a s s′ → remaining ks (s′ .0) < remaining ks (s .0)
-moves-on {ks} {d} {start} {a} {s} {s′} u n x = go (going (s .0 .answer)) (going (s′ .0 .answer))
+stopped-none : (m : ℕ) → (m ≡ 0 → ⊥) → (l : ℕ) → cond (eqb m 0) l 0 ≡ 0
+stopped-none m f l = pick (eqb m 0) (λ t. f (eqb→eq m 0 t))
   where
-    none : (m : ℕ) → (m ≡ 0 → ⊥) → (l : ℕ) → cond (eqb m 0) l 0 ≡ 0
-    none m f l = pick (eqb m 0) (λ t. f (eqb→eq m 0 t))
-      where
-        pick : (b : Bool) → (T b → ⊥) → cond b l 0 ≡ 0
-        pick true f = absurd (f tt)
-        pick false f = refl
+    pick : (b : Bool) → (T b → ⊥) → cond b l 0 ≡ 0
+    pick true f = absurd (f tt)
+    pick false f = refl
 
-    moved : s .0 .answer ≡ 0 → s′ .0 .answer ≡ 0 → s .0 .at < s′ .0 .at
-    moved z z′ = let r = x .does (start, []) refl refl .runs z end in far (r .outcome) (r .run) (r .ends)
-      where
-        ahead-of : {j : ℕ} → Look idl-table (kind-at ks) a (s .0 .at) j → s .0 .at < j
-        ahead-of (look-nothing e v) = absurd (T-not (null idl-table a) u v)
-        ahead-of (look-some h v) = h
+-- where a token stands ahead, reading goes on, and the token is in the table
+ahead-goes : (ks : List ℕ) (s : ℕ) → (ahead ks s ≡ 0 → ⊥) → view s .answer ≡ 0
+ahead-goes ks s n = go (going (view s .answer))
+  where
+    go : (view s .answer ≡ 0) ⊎ (view s .answer ≡ 0 → ⊥) → view s .answer ≡ 0
+    go (inl z) = z
+    go (inr f) = absurd (n (stopped-none (view s .answer) f (kind-at ks (view s .at))))
 
-        far : (o : Outcome) → Runs idl-table (kind-at ks) d a (s .0 .at) end o → Ends (start, []) end s s′ o →
-            s .0 .at < s′ .0 .at
-        far (done j g) r (ends-done e e′ k) = let h =
-            ahead-of (look idl-table (kind-at ks) (all-typed idl-checked) (sound r)) in omega arith
-        far (blame q) r (ends-blame e e′) = absurd (omega arith)
-        far (deep q) r (ends-deep e e′) = absurd (omega arith)
+ahead-within : (ks : List ℕ) (s : ℕ) → (ahead ks s ≡ 0 → ⊥) → view s .at < length ks
+ahead-within ks s n = within ks (view s .at) (λ e. n (ahead-kind ks s (ahead-goes ks s n) ∙ e))
 
-    go : (s .0 .answer ≡ 0) ⊎ (s .0 .answer ≡ 0 → ⊥) → (s′ .0 .answer ≡ 0) ⊎ (s′ .0 .answer ≡ 0 → ⊥) →
-        remaining ks (s′ .0) < remaining ks (s .0)
-    go (inr f) z = absurd (n (none (s .0 .answer) f (kind-at ks (s .0 .at))))
-    go (inl z) (inr f) = rw (z, none (s′ .0 .answer) f) (omega arith)
-    go (inl z) (inl z′) = let h = within ks (s .0 .at) (λ e. n (ahead-kind ks (s .0) z ∙ e)) in let m = moved z z′ in
-        rw (z, z′) (omega arith)
+module _ {ks : List ℕ} {d start : ℕ} {a : Plan} {s s′ : State} (u : T (not (null idl-table a)))
+    (x : (hs : List ℕ) → From ks d start hs a s s′) where
+  moved : view (s .0) .answer ≡ 0 → view (s′ .0) .answer ≡ 0 → view (s .0) .at < view (s′ .0) .at
+  unfolding shape elem
+  moved z z′ = let r = x (0 ∷ []) .does (view start, []) refl refl .runs z end tt in far (r .outcome) (r .run) (r .ends)
+    where
+      ahead-of : {j : ℕ} → Look idl-table (kind-at ks) a (view (s .0) .at) j → view (s .0) .at < j
+      ahead-of (look-nothing e v) = absurd (T-not (null idl-table a) u v)
+      ahead-of (look-some h v) = h
 
-pub falls : {ks : List ℕ} {d x : ℕ} {start : Reading} {a : Plan} {s s′ : State} (k : Known) → x ≡ ahead ks (s .0) →
-    Knows k x → T (repeats k a) → Within ks d start a s s′ → remaining ks (s′ .0) < remaining ks (s .0)
+      far : (o : Outcome) → Runs idl-table (kind-at ks) d a (view (s .0) .at) end o →
+          Ends (view start, []) end (seen s) (seen s′) o → view (s .0) .at < view (s′ .0) .at
+      far (done j g) r (ends-done e e′ k) = let h =
+          ahead-of (look idl-table (kind-at ks) (all-typed idl-checked) (sound r)) in omega arith
+      far (blame q) r (ends-blame e e′) = absurd (omega arith)
+      far (deep q) r (ends-deep e e′) = absurd (omega arith)
+
+  -- a token stands before the turn
+  moves-on : (ahead ks (s .0) ≡ 0 → ⊥) → remaining ks (s′ .0) < remaining ks (s .0)
+  moves-on n = go (going (view (s′ .0) .answer))
+    where
+      z : view (s .0) .answer ≡ 0
+      z = ahead-goes ks (s .0) n
+
+      go : (view (s′ .0) .answer ≡ 0) ⊎ (view (s′ .0) .answer ≡ 0 → ⊥) → remaining ks (s′ .0) < remaining ks (s .0)
+      go (inr f) = rw (z, stopped-none (view (s′ .0) .answer) f) (omega arith)
+      go (inl z′) = let h = ahead-within ks (s .0) n in let m = moved z z′ in rw (z, z′) (omega arith)
+
+  -- a token stands behind it
+  came-on : (ahead ks (s′ .0) ≡ 0 → ⊥) → remaining ks (s′ .0) < remaining ks (s .0)
+  came-on n = go (going (view (s .0) .answer))
+    where
+      z′ : view (s′ .0) .answer ≡ 0
+      z′ = ahead-goes ks (s′ .0) n
+
+      go : (view (s .0) .answer ≡ 0) ⊎ (view (s .0) .answer ≡ 0 → ⊥) → remaining ks (s′ .0) < remaining ks (s .0)
+      go (inr f) = absurd (f (sym (x [] .does (view start, []) refl refl .stays f .answers) ∙ z′))
+      go (inl z) = let h = ahead-within ks (s′ .0) n in let m = moved z z′ in rw (z, z′) (omega arith)
+
+-- what a repetition that goes on tells
+reads-some : (k : Known) (a : Plan) → T (repeats k a) → T (not (null idl-table a))
+unfolding repeats
+reads-some (among ls) a u =
+    and-left (not (null idl-table a)) (not (elem 0 ls))
+    (and-right (goes-on idl-table (among ls) a) (not (null idl-table a) && not (elem 0 ls)) u)
+reads-some (except arms) a u = absurd u
+
+some-ahead : (k : Known) (a : Plan) → T (repeats k a) → {x : ℕ} → Knows k x → x ≡ 0 → ⊥
 unfolding repeats Knows
-falls {ks} {d} {x} {start} {a} {s} {s′} (among ls) e h u y =
-    moves-on (and-left (not (null idl-table a)) (not (elem 0 ls))
-    (and-right (goes-on idl-table (among ls) a) (not (null idl-table a) && not (elem 0 ls)) u))
-    (λ z. T-not (elem 0 ls)
+some-ahead (among ls) a u {x} h z =
+    T-not (elem 0 ls)
     (and-right (not (null idl-table a)) (not (elem 0 ls))
     (and-right (goes-on idl-table (among ls) a) (not (null idl-table a) && not (elem 0 ls)) u))
-    (subst (λ (n : ℕ). T (elem n ls)) (e ∙ z) (any-elem ls x h))) y
-falls (except arms) e h u y = absurd u
+    (subst (λ (n : ℕ). T (elem n ls)) z (any-elem ls x h))
+some-ahead (except arms) a u h z = absurd u
+
+pub falls : {ks : List ℕ} {d x start : ℕ} {a : Plan} {s s′ : State} (k : Known) → x ≡ ahead ks (s .0) → Knows k x →
+    T (repeats k a) → ((hs : List ℕ) → From ks d start hs a s s′) → remaining ks (s′ .0) < remaining ks (s .0)
+falls {a = a} k e h u y = moves-on (reads-some k a u) y (λ z. some-ahead k a u h (e ∙ z))
+
+-- the same, where the test stands behind the turn
+pub falls-behind : {ks : List ℕ} {d x start : ℕ} {a : Plan} {s s′ : State} (k : Known) → x ≡ ahead ks (s′ .0) →
+    Knows k x → T (repeats k a) → ((hs : List ℕ) → From ks d start hs a s s′) →
+    remaining ks (s′ .0) < remaining ks (s .0)
+falls-behind {a = a} k e h u y = came-on (reads-some k a u) y (λ z. some-ahead k a u h (e ∙ z))
+
+-- one or more, so far: whatever one or more do from here, they do from the start
+pub record Begun (ks : List ℕ) (d start : ℕ) (a : Plan) (s s′ : State) : Type 0 where
+  pub on : (s″ : State) → ((hs : List ℕ) → From ks d start hs (seq a (many a)) s′ s″) → (hs : List ℕ) →
+      From ks d start hs (seq a (many a)) s s″
+
+pub begun-here : {ks : List ℕ} {d start : ℕ} {a : Plan} {s : State} → Begun ks d start a s s
+begun-here = record { on = λ s″ x. x }
+
+-- one more, behind which others stand
+pub begun-more : {ks : List ℕ} {d x start : ℕ} {a : Plan} {s s′ s″ : State} (k : Known) → x ≡ ahead ks (s″ .0) →
+    Knows k x → T (repeats k a) → ((hs : List ℕ) → From ks d start hs a s′ s″) → Begun ks d start a s s′ →
+    Begun ks d start a s s″
+begun-more {a = a} {s″ = s″} k e h u y begun = record {
+  on = λ t z. begun .on t (λ hs. y hs ▸ repeated k e h u (z (leaves a hs)));
+}
+
+-- the last one
+pub begun-over : {ks : List ℕ} {d x start : ℕ} {a : Plan} {s s′ s″ : State} (k : Known) → x ≡ ahead ks (s″ .0) →
+    Knows k x → T (is-over idl-table k a) → ((hs : List ℕ) → From ks d start hs a s′ s″) → Begun ks d start a s s′ →
+    (hs : List ℕ) → From ks d start hs (seq a (many a)) s s″
+begun-over {a = a} {s″ = s″} k e h u y begun = begun .on s″ (λ hs. y hs ▸ far-over k e h u far-here (leaves a hs))

@@ -1,164 +1,180 @@
 -- Reading one plan after the other: tokens, nodes, and frames put together as plans are.
 -- A stopped state passes through, so each law goes by the outcome of its first part. Assumes nothing.
-use Prim.Native.Nat.{ℕ, suc, _+_, _-_, _≤_}
+use Prim.Native.Nat.{ℕ, suc, _+_, _-_, _≤_, _<_}
 use native.Mathlib.Numerals.{add-one}
 use native.Mathlib.Omega.{arith}
 use mathlib.Core.Path.{_≡_, refl, ap, sym, _∙_, subst}
 use mathlib.Core.Bool.{true, false}
-use mathlib.Core.List.{List}
+use mathlib.Core.List.{List, [], _∷_}
 use lib.Dec.{T}
 use Rattle.grammar.specs.Forest.{Forest, end, leaf, node, join}
-use Rattle.grammar.specs.Idl.{idl}
-use Rattle.grammar.specs.Record.{recorded, tree-record}
+use Rattle.grammar.specs.Record.{tree-record, shape}
+use Rattle.grammar.specs.Sets.{elem}
 use Rattle.prediction.specs.Plan.{Plan, token, wrap, seq, call, skip}
 use Rattle.prediction.specs.Run.{Outcome, done, blame, deep, stopped, Runs, run-token, run-miss, run-call}
 use Rattle.prediction.specs.Run.{run-call-stop, run-wrap, run-seq, run-seq-stop, run-skip}
 use Rattle.prediction.specs.IdlChecked.{idl-table}
-use Rattle.readers_core.specs.Reading.{kind-at, ceiling, counted, write, State, Held, Ends, ends-done, ends-blame}
-use Rattle.readers_core.specs.Reading.{ends-deep, Ran, Does, Within, Written, entered, onward, left}
-use Rattle.readers_core.specs.declared.Reading.{Reading}
-use Rattle.readers_core.proofs.Holding.{held-none, held-token, held-lost, held-kept, held-call}
+use Rattle.readers_core.specs.Reading.{kind-at, ceiling, write, view, State, Seen, Held, Ends, ends-done, ends-blame}
+use Rattle.readers_core.specs.Reading.{ends-deep, Ran, Stays, Does, From, all-recorded, none-recorded}
+use Rattle.readers_core.proofs.Holding.{held-none, held-token, held-lost, held-kept, held-full, held-call}
+use Rattle.readers_core.proofs.Shapes.{leaves, shapes, recorded-over, unrecorded-over}
 
 -- what was held before goes on being held
-pub after : {b s s′ s″ : State} {f h : Forest} {o : Outcome} → (Held b f s → Held b h s′) → Ends b h s′ s″ o →
+pub after : {b s s′ s″ : Seen} {f h : Forest} {o : Outcome} → (Held b f s → Held b h s′) → Ends b h s′ s″ o →
     Ends b f s s″ o
 after k (ends-done e e′ l) = ends-done e e′ (λ x. l (k x))
 after k (ends-blame e e′) = ends-blame e e′
 after k (ends-deep e e′) = ends-deep e e′
 
-halted : {b s s′ t : State} {f : Forest} {o : Outcome} → T (stopped o) → t ≡ s′ → Ends b f s s′ o → Ends b f s t o
+halted : {b s s′ t : Seen} {f : Forest} {o : Outcome} → T (stopped o) → Stays s′ t → Ends b f s s′ o → Ends b f s t o
 unfolding stopped
 halted z e (ends-done u v k) = absurd z
-halted z e (ends-blame u v) =
-    ends-blame (ap (λ (x : State). x .0 .answer) e ∙ u) (ap (λ (x : State). x .0 .at) e ∙ v)
-halted z e (ends-deep u v) = ends-deep (ap (λ (x : State). x .0 .answer) e ∙ u) (ap (λ (x : State). x .0 .at) e ∙ v)
+halted z e (ends-blame u v) = ends-blame (e .answers ∙ u) (e .places ∙ v)
+halted z e (ends-deep u v) = ends-deep (e .answers ∙ u) (e .places ∙ v)
+
+pub unmoved : {s : Seen} → Stays s s
+unmoved = record { answers = refl; places = refl }
 
 module _ {ks : List ℕ} {d : ℕ} where
-  pub does-stays : {p : Plan} {b s : State} → (s .0 .answer ≡ 0 → ⊥) → Does ks d p b s s
-  does-stays n = record { stays = λ u. refl; runs = λ z f. absurd (n z) }
+  pub does-stays : {hs : List ℕ} {p : Plan} {b s s′ : Seen} → (s .0 .answer ≡ 0 → ⊥) → Stays s s′ →
+      Does ks d hs p b s s′
+  does-stays n e = record { stays = λ u. e; runs = λ z f v. absurd (n z) }
 
-  does-seq : {a c : Plan} {b s s′ s″ : State} → Does ks d a b s s′ → Does ks d c b s′ s″ → Does ks d (seq a c) b s s″
+  does-seq : {hs : List ℕ} {a c : Plan} {b s s′ s″ : Seen} → Does ks d hs a b s s′ →
+      Does ks d (leaves a hs) c b s′ s″ → Does ks d hs (seq a c) b s s″
   unfolding stopped
-  does-seq {a} {c} {b} {s} {s′} {s″} x y = record {
-    stays = λ n. let p = x .stays n in y .stays (λ e. n (sym (ap (λ (z : State). z .0 .answer) p) ∙ e)) ∙ p;
-    runs = λ z f. go f (x .runs z f .outcome) (x .runs z f .run) (x .runs z f .ends);
+  does-seq {hs} {a} {c} {b} {s} {s′} {s″} x y = record {
+    stays = λ n. let p = x .stays n in let q = y .stays (λ e. n (sym (p .answers) ∙ e)) in
+        record { answers = q .answers ∙ p .answers; places = q .places ∙ p .places };
+    runs = λ z f v. go f v (x .runs z f v .outcome) (x .runs z f v .run) (x .runs z f v .ends);
   }
     where
-      go : (f : Forest) (o : Outcome) → Runs idl-table (kind-at ks) d a (s .0 .at) f o → Ends b f s s′ o →
-          Ran ks d (seq a c) b f s s″
-      go f (done m h) r (ends-done e e′ k) =
-          let z = y .runs e h in
+      go : (f : Forest) → T (elem (shape f) hs) → (o : Outcome) → Runs idl-table (kind-at ks) d a (s .0 .at) f o →
+          Ends b f s s′ o → Ran ks d (seq a c) b f s s″
+      go f v (done m h) r (ends-done e e′ k) =
+          let z = y .runs e h (shapes a hs r v) in
           record {
             outcome = z .outcome;
             run = run-seq r (subst (λ (i : ℕ). Runs idl-table (kind-at ks) d c i h (z .outcome)) e′ (z .run));
             ends = after k (z .ends);
           }
-      go f (blame q) r (ends-blame e e′) = record {
+      go f v (blame q) r (ends-blame e e′) = record {
         outcome = blame q;
         run = run-seq-stop r tt;
         ends = halted tt (y .stays (λ u. omega arith)) (ends-blame e e′);
       }
-      go f (deep q) r (ends-deep e e′) = record {
+      go f v (deep q) r (ends-deep e e′) = record {
         outcome = deep q;
         run = run-seq-stop r tt;
         ends = halted tt (y .stays (λ u. omega arith)) (ends-deep e e′);
       }
 
   -- a stopped state passes through
-  pub stays : {p : Plan} {start : Reading} {s : State} → (s .0 .answer ≡ 0 → ⊥) → Within ks d start p s s
-  stays n = record { does = λ b e e′. does-stays n }
+  pub stays : {hs : List ℕ} {p : Plan} {start : ℕ} {s : State} → (view (s .0) .answer ≡ 0 → ⊥) →
+      From ks d start hs p s s
+  stays n = record { does = λ b e e′. does-stays n unmoved }
 
   infixr 5 _▸_
   -- one plan after the other
-  pub _▸_ : {a c : Plan} {start : Reading} {s s′ s″ : State} → Within ks d start a s s′ → Within ks d start c s′ s″ →
-      Within ks d start (seq a c) s s″
+  pub _▸_ : {hs : List ℕ} {a c : Plan} {start : ℕ} {s s′ s″ : State} → From ks d start hs a s s′ →
+      From ks d start (leaves a hs) c s′ s″ → From ks d start hs (seq a c) s s″
   x ▸ y = record { does = λ b e e′. does-seq (x .does b e e′) (y .does b e e′) }
 
   -- nothing is read
-  pub skipped : {start : Reading} {s : State} → Within ks d start skip s s
+  pub skipped : {hs : List ℕ} {start : ℕ} {s : State} → From ks d start hs skip s s
   skipped {s = s} = record {
     does = λ b e e′. record {
-      stays = λ n. refl;
-      runs = λ z f. record { outcome = done (s .0 .at) f; run = run-skip; ends = ends-done z refl (λ h. h) };
+      stays = λ n. unmoved;
+      runs = λ z f v. record { outcome = done (view (s .0) .at) f; run = run-skip; ends = ends-done z refl (λ h. h) };
     };
   }
 
   -- a token that is there, and one that is not
-  pub taken : {k : ℕ} {start s s′ : Reading} {w : List ℕ} → s .answer ≡ 0 → kind-at ks (s .at) ≡ k → s′ ≡ onward s →
-      Within ks d start (token k) (s, w) (s′, w)
-  taken {k = k} {s = s} {w = w} z e o = record {
+  pub taken : {hs : List ℕ} {k start s s′ : ℕ} {w : List ℕ} → view s .answer ≡ 0 → kind-at ks (view s .at) ≡ k →
+      view s′ .answer ≡ 0 → view s′ .at ≡ view s .at + 1 → view s′ .count ≡ view s .count →
+      From ks d start hs (token k) (s, w) (s′, w)
+  taken {k = k} {s = s} {s′ = s′} {w = w} z e o a n = record {
     does = λ b _ _. record {
       stays = λ n. absurd (n z);
-      runs = λ u f. record {
-        outcome = done (suc (s .at)) (leaf f k);
+      runs = λ u f v. record {
+        outcome = done (suc (view s .at)) (leaf f k);
         run = run-token e;
-        ends = subst (λ (x : Reading). Ends b f (s, w) (x, w) (done (suc (s .at)) (leaf f k))) (sym o)
-            (ends-done refl (add-one (s .at)) (held-token k b (s, w) f));
+        ends = ends-done o (a ∙ add-one (view s .at)) (held-token k b (view s, w) (view s′, w) f a n refl);
       };
     };
   }
 
-  pub missed : {k : ℕ} {start s s′ : Reading} {w : List ℕ} → s .answer ≡ 0 → (kind-at ks (s .at) ≡ k → ⊥) →
-      s′ .answer ≡ 7 → s′ .at ≡ s .at → Within ks d start (token k) (s, w) (s′, w)
+  pub missed : {hs : List ℕ} {k start s s′ : ℕ} {w : List ℕ} → view s .answer ≡ 0 →
+      (kind-at ks (view s .at) ≡ k → ⊥) → view s′ .answer ≡ 7 → view s′ .at ≡ view s .at →
+      From ks d start hs (token k) (s, w) (s′, w)
   missed {s = s} z e u v = record {
     does = λ b _ _. record {
       stays = λ n. absurd (n z);
-      runs = λ w f. record { outcome = blame (s .at); run = run-miss e; ends = ends-blame u v };
+      runs = λ w f _. record { outcome = blame (view s .at); run = run-miss e; ends = ends-blame u v };
     };
   }
 
-  -- the frame becomes one node, without a record and with one
-  pub unrecorded-node : {r : ℕ} {start s : Reading} {w : List ℕ} → s .answer ≡ 0 → recorded idl r (s .shape) ≡ false →
-      Within ks d start (wrap r) (s, w) (record { answer = 0; at = s .at; count = s .count; shape = 1 }, w)
-  unrecorded-node {r} {start} {s} {w} z k = record {
+  -- the frame becomes one node without a record: nothing is done
+  pub unrecorded : {hs : List ℕ} {r start : ℕ} {s : State} → T (none-recorded r hs) →
+      From ks d start hs (wrap r) s s
+  unrecorded {hs} {r} {start} {s} t = record {
     does = λ b e e′. record {
-      stays = λ n. absurd (n z);
-      runs = λ u f. record {
-        outcome = done (s .at) (node end r f);
+      stays = λ n. unmoved;
+      runs = λ z f v. record {
+        outcome = done (view (s .0) .at) (node end r f);
         run = run-wrap;
-        ends = ends-done refl refl (λ h. held-lost r b (s, w) f h k);
+        ends = ends-done z refl (λ h. held-lost r b (view (s .0), s .1) f h (unrecorded-over r hs f t v));
       };
     };
   }
 
-  pub recorded-node : {r : ℕ} {start s : Reading} {w w′ : List ℕ} {n : ℕ} → s .answer ≡ 0 →
-      recorded idl r (s .shape) ≡ true → start .count ≤ ceiling → n ≡ counted (s .count + 1) → Written r start s w w′ →
-      Within ks d start (wrap r) (s, w) (record { answer = 0; at = s .at; count = n; shape = 1 }, w′)
-  recorded-node {r} {start} {s} {w} {w′} {n} z k small m e = record {
+  -- with a record, and where the count stays at its ceiling
+  pub recorded-node : {hs : List ℕ} {r start s s′ : ℕ} {w w′ : List ℕ} → T (all-recorded r hs) → view s .answer ≡ 0 →
+      view s .count < ceiling → view s′ .answer ≡ 0 → view s′ .at ≡ view s .at → view s′ .count ≡ view s .count + 1 →
+      (view start .count ≤ view s .count → w′ ≡ write w (view s .count)
+      (tree-record r (view start .at) (view s .at) (view s .count + 1 - view start .count))) →
+      From ks d start hs (wrap r) (s, w) (s′, w′)
+  recorded-node {hs} {r} {start} {s} {s′} {w} {w′} t z low o a n e = record {
     does = λ b i j. record {
       stays = λ n. absurd (n z);
-      runs = λ u f. record {
-        outcome = done (s .at) (node end r f);
+      runs = λ u f v. record {
+        outcome = done (view s .at) (node end r f);
         run = run-wrap;
-        ends = ends-done {g = node end r f} refl refl (λ h.
-            let l : b .0 .count ≤ ceiling = omega (arith, j) in
-            let x = held-kept r b (s, w) f h k l in
-            let le : start .count ≤ s .count = omega (arith, h .count-is, j) in
-            rw (m, e le, ← i, ← j) x);
+        ends = ends-done {g = node end r f} o a (λ h.
+            let le : view start .count ≤ view s .count = omega (arith, h .count-is, j) in
+            held-kept r b (view s, w) f h (view s′, w′) (recorded-over r hs f t v) low a n (rw (i, j) (e le)));
       };
     };
   }
 
-  -- a frame: entered with nothing, and left with its forest behind the caller's
-  pub does-call : (m : ℕ) {b s t : State} → s .0 .answer ≡ 0 →
-      Does ks d (idl-table .plan m) (entered (s .0), s .1) (entered (s .0), s .1) t →
-      Does ks d (call m) b s (left (s .0) (t .0), t .1)
-  unfolding stopped
-  does-call m {b} {s} {t} z x = record {
+  pub full-node : {hs : List ℕ} {r start : ℕ} {s : State} → T (all-recorded r hs) → ceiling ≤ view (s .0) .count →
+      From ks d start hs (wrap r) s s
+  full-node {hs} {r} {start} {s} t high = record {
+    does = λ b e e′. record {
+      stays = λ n. unmoved;
+      runs = λ z f v. record {
+        outcome = done (view (s .0) .at) (node end r f);
+        run = run-wrap;
+        ends = ends-done z refl (λ h. held-full r b (view (s .0), s .1) f h (recorded-over r hs f t v) high);
+      };
+    };
+  }
+
+  -- a frame: it begins with nothing, and its forest goes behind the caller's
+  pub does-call : (m : ℕ) {hs : List ℕ} {b s t : Seen} → s .0 .answer ≡ 0 →
+      Does ks d (0 ∷ []) (idl-table .plan m) s s t → Does ks d hs (call m) b s t
+  unfolding stopped shape elem
+  does-call m {hs} {b} {s} {t} z x = record {
     stays = λ n. absurd (n z);
-    runs = λ e f. let y = x .runs e end in go f (y .outcome) (y .run) (y .ends);
+    runs = λ e f v. let y = x .runs e end tt in go f (y .outcome) (y .run) (y .ends);
   }
     where
-      back : (g : Forest) → Held (entered (s .0), s .1) g t → Held s g t
-      back g h = record { at-is = h .at-is; count-is = h .count-is; table-is = h .table-is; shape-is = h .shape-is }
-
       go : (f : Forest) (o : Outcome) → Runs idl-table (kind-at ks) d (idl-table .plan m) (s .0 .at) end o →
-          Ends (entered (s .0), s .1) end (entered (s .0), s .1) t o →
-          Ran ks d (call m) b f s (left (s .0) (t .0), t .1)
+          Ends s end s t o → Ran ks d (call m) b f s t
       go f (done j g) r (ends-done u v k) = record {
         outcome = done j (join f g);
         run = run-call r refl;
-        ends = ends-done u v (λ h. held-call b s t f g h (back g (k (held-none s (omega (arith, h .count-is))))));
+        ends = ends-done u v (λ h. held-call b s t f g h (k (held-none s (omega (arith, h .count-is)))));
       }
       go f (blame q) r (ends-blame u v) = record { outcome = blame q; run = run-call-stop r tt; ends = ends-blame u v }
       go f (deep q) r (ends-deep u v) = record { outcome = deep q; run = run-call-stop r tt; ends = ends-deep u v }

@@ -3,16 +3,14 @@
 use Prim.Native.Nat.{ℕ, suc, _+_, _≤_, _<_}
 use native.Mathlib.Nat.{add-zero}
 use native.Mathlib.Omega.{arith}
-use mathlib.Core.Path.{_≡_, refl, ap, sym, _∙_, subst}
-use mathlib.Core.Bool.{Bool, true, false, not, _||_, cond}
+use mathlib.Core.Path.{_≡_, refl, ap, sym, _∙_}
+use mathlib.Core.Bool.{Bool, true, false, not, cond}
 use mathlib.Core.List.{List, [], _∷_, _++_}
 use mathlib.Core.Logic.{_⊎_, inl, inr}
-use lib.Dec.{T, eqb, ltb, leb, not-T, leb→le, nleb→lt, lt→ltb, ltb→lt, eqb→eq, eqb-refl}
+use lib.Dec.{T, ltb, leb, leb→le, nleb→lt, lt→ltb, ltb→lt}
 use lib.ListN.{length}
-use Rattle.grammar.specs.Idl.{idl}
-use Rattle.grammar.specs.Record.{TreeRecord, tree-record, recorded}
-use Rattle.grammar.specs.Sets.{elem}
-use Rattle.prediction.specs.Sets.{or-left, or-right, decide}
+use Rattle.grammar.specs.Record.{TreeRecord, tree-record}
+use Rattle.prediction.specs.Sets.{decide}
 use Rattle.tables.specs.Tables.{node-width, put}
 use Rattle.readers_core.specs.Reading.{ceiling, counted, write, writes}
 
@@ -33,12 +31,14 @@ write-past w n (tree-record a b c d) h = go (ltb n ceiling) (ltb→lt n ceiling)
     go false u = refl
 
 -- below the ceiling a record is put into the table
-pub write-below : (w : List ℕ) (n a b c d : ℕ) → n < ceiling →
-    put node-width w n (a ∷ b ∷ c ∷ d ∷ []) ≡ write w n (tree-record a b c d)
+pub write-below : (w : List ℕ) (a : ℕ) {n b c d n′ b′ c′ d′ : ℕ} → n′ < ceiling → n ≡ n′ → b ≡ b′ → c ≡ c′ → d ≡ d′ →
+    put node-width w n (a ∷ b ∷ c ∷ d ∷ []) ≡ write w n′ (tree-record a b′ c′ d′)
 unfolding write
-write-below w n a b c d h = go (ltb n ceiling) (lt→ltb n ceiling h)
+write-below w a {n} {b} {c} {d} {n′} {b′} {c′} {d′} h e e′ e″ e‴ =
+    rw (e, e′, e″, e‴) (go (ltb n′ ceiling) (lt→ltb n′ ceiling h))
   where
-    go : (x : Bool) → T x → put node-width w n (a ∷ b ∷ c ∷ d ∷ []) ≡ cond x (put node-width w n (a ∷ b ∷ c ∷ d ∷ [])) w
+    go : (x : Bool) → T x → put node-width w n′ (a ∷ b′ ∷ c′ ∷ d′ ∷ [])
+        ≡ cond x (put node-width w n′ (a ∷ b′ ∷ c′ ∷ d′ ∷ [])) w
     go true u = refl
     go false u = absurd u
 
@@ -56,41 +56,3 @@ writes-counted w n xs = go (decide (leb n ceiling))
     go (inr u) =
         let l = nleb→lt n ceiling u in
         writes-past w (counted n) xs (omega arith) ∙ sym (writes-past w n xs (omega arith))
-
--- which uses of a rule are recorded, as the code tells it
-same : (m n : ℕ) → m ≡ n → T (eqb m n)
-same m n e = subst (λ (z : ℕ). T (eqb m z)) e (eqb-refl m)
-
-true-by : (b : Bool) → T b → true ≡ b
-true-by true u = refl
-true-by false u = absurd u
-
-pub recorded-more : (r h : ℕ) → (h ≡ 1 → ⊥) → true ≡ recorded idl r h
-unfolding recorded
-recorded-more r h n =
-    true-by (recorded idl r h)
-    (or-left (not (eqb h 1)) (elem r (idl .always)) (not-T (eqb h 1) (λ u. n (eqb→eq h 1 u))))
-
-pub recorded-first : (r h : ℕ) → r ≡ 1 → true ≡ recorded idl r h
-unfolding recorded elem idl
-recorded-first r h e =
-    true-by (recorded idl r h)
-    (or-right (not (eqb h 1)) (eqb r 1 || (eqb r 8 || false)) (or-left (eqb r 1) (eqb r 8 || false) (same r 1 e)))
-
-pub recorded-body : (r h : ℕ) → r ≡ 8 → true ≡ recorded idl r h
-unfolding recorded elem idl
-recorded-body r h e =
-    true-by (recorded idl r h)
-    (or-right (not (eqb h 1)) (eqb r 1 || (eqb r 8 || false))
-    (or-right (eqb r 1) (eqb r 8 || false) (or-left (eqb r 8) false (same r 8 e))))
-
-pub recorded-none : (r h : ℕ) → h ≡ 1 → (r ≡ 1 → ⊥) → (r ≡ 8 → ⊥) → false ≡ recorded idl r h
-unfolding recorded elem idl
-recorded-none r h e n m =
-    go (eqb h 1) (eqb r 1) (eqb r 8) (same h 1 e) (λ u. n (eqb→eq r 1 u)) (λ u. m (eqb→eq r 8 u))
-  where
-    go : (a b c : Bool) → T a → (T b → ⊥) → (T c → ⊥) → false ≡ not a || (b || (c || false))
-    go false b c x y z = absurd x
-    go true true c x y z = absurd (y tt)
-    go true false true x y z = absurd (z tt)
-    go true false false x y z = refl

@@ -1,35 +1,54 @@
 -- A reader's state with the tree table, and what reading by a plan makes of it: one relation for every reader.
 -- Assumes nothing: these are definitions.
-use Prim.Native.Nat.{ℕ, suc, _+_, _*_, _-_, _≤_, _<_, _^_, min}
+use Prim.Native.Nat.{ℕ, suc, _+_, _*_, _-_, _/_, _%_, _≤_, _<_, _^_, min}
 use mathlib.Core.Path.{_≡_}
-use mathlib.Core.Bool.{Bool, true, false, cond}
+use mathlib.Core.Bool.{Bool, true, false, not, _&&_, cond}
 use mathlib.Core.List.{List, [], _∷_}
-use lib.Dec.{eqb, ltb}
+use lib.Dec.{T, eqb, ltb}
 use lib.ListN.{getD, length}
 use Rattle.grammar.specs.Forest.{Forest, width}
 use Rattle.grammar.specs.Idl.{idl}
-use Rattle.grammar.specs.Record.{TreeRecord, tree-record, shape, records}
+use Rattle.grammar.specs.Record.{TreeRecord, tree-record, shape, recorded, records}
+use Rattle.grammar.specs.Sets.{elem}
 use Rattle.prediction.specs.Plan.{Plan, call, wrap}
 use Rattle.prediction.specs.Run.{Outcome, done, blame, deep, Runs}
 use Rattle.prediction.specs.IdlChecked.{idl-table}
 use Rattle.tables.specs.Tables.{token-width, node-width, put}
-use Rattle.readers_core.specs.declared.Reading.{Reading}
 
 -- the kind of token i of a token table, 0 past its end
 abbrev pub kind-at : List ℕ → ℕ → ℕ
 kind-at tokens i = getD tokens (token-width * i) 0
 
--- the kind of the next token, 0 at the end and where reading has stopped
-abbrev pub ahead : List ℕ → Reading → ℕ
-ahead tokens s = cond (eqb (s .answer) 0) (kind-at tokens (s .at)) 0
-
 -- a token table whose places fit 32 bits
 abbrev pub Short : List ℕ → Type 0
 Short tokens = length tokens < 2 ^ 32
 
--- a count of records stays where it fills its number
+-- where a reader stands: going on (0), blaming (7) or too deep (8); the next token; the tree records so far
+pub record Reading : Type 0 where
+  pub answer : ℕ
+  pub at : ℕ
+  pub count : ℕ
+
+-- the same in one number: the next token in its low half, the records in its high half, which from 2 ^ 31 on tells a stop
+abbrev pub half : ℕ
+half = 4294967296
+
+abbrev pub blamed : ℕ
+blamed = 9223372036854775808
+
+abbrev pub too-deep : ℕ
+too-deep = 9223372041149743104
+
+abbrev pub view : ℕ → Reading
+view s = record { answer = cond (ltb s blamed) 0 (cond (ltb s too-deep) 7 8); at = s % half; count = s / half }
+
+-- the kind of the next token, 0 at the end and where reading has stopped
+abbrev pub ahead : List ℕ → ℕ → ℕ
+ahead tokens s = cond (eqb (view s .answer) 0) (kind-at tokens (view s .at)) 0
+
+-- a count of records stays where it fills its part
 abbrev pub ceiling : ℕ
-ceiling = 4294967295
+ceiling = 2147483647
 
 abbrev pub counted : ℕ → ℕ
 counted n = min n ceiling
@@ -44,49 +63,76 @@ unfolding write
 writes table n [] = table
 writes table n (r ∷ rs) = writes (write table n r) (suc n) rs
 
--- a reader's state and the tree table
+-- a reader's state and the tree table, and how the laws see them
 abbrev pub State : Type 0
-State = Reading × List ℕ
+State = ℕ × List ℕ
+
+abbrev pub Seen : Type 0
+Seen = Reading × List ℕ
+
+abbrev pub seen : State → Seen
+seen s = (view (s .0), s .1)
 
 -- the frame that began in state b has read the forest f
-pub record Held (b : State) (f : Forest) (s : State) : Type 0 where
+pub record Held (b : Seen) (f : Forest) (s : Seen) : Type 0 where
   pub at-is : s .0 .at ≡ b .0 .at + width f
   pub count-is : s .0 .count ≡ counted (b .0 .count + length (records idl (b .0 .at) f))
   pub table-is : s .1 ≡ writes (b .1) (b .0 .count) (records idl (b .0 .at) f)
-  pub shape-is : s .0 .shape ≡ shape f
 
 -- how a run from s, in the frame that began in state b and has read f, ends in s′
-pub data Ends (b : State) (f : Forest) (s s′ : State) : Outcome → Type 0 where
+pub data Ends (b : Seen) (f : Forest) (s s′ : Seen) : Outcome → Type 0 where
   ends-done : {j : ℕ} {g : Forest} → s′ .0 .answer ≡ 0 → s′ .0 .at ≡ j → (Held b f s → Held b g s′) →
       Ends b f s s′ (done j g)
   ends-blame : {q : ℕ} → s′ .0 .answer ≡ 7 → s′ .0 .at ≡ q → Ends b f s s′ (blame q)
   ends-deep : {q : ℕ} → s′ .0 .answer ≡ 8 → s′ .0 .at ≡ q → Ends b f s s′ (deep q)
 
-pub record Ran (ks : List ℕ) (d : ℕ) (p : Plan) (b : State) (f : Forest) (s s′ : State) : Type 0 where
+pub record Ran (ks : List ℕ) (d : ℕ) (p : Plan) (b : Seen) (f : Forest) (s s′ : Seen) : Type 0 where
   pub outcome : Outcome
   pub run : Runs idl-table (kind-at ks) d p (s .0 .at) f outcome
   pub ends : Ends b f s s′ outcome
 
--- reading by plan p, on the token table ks with d levels of depth left, in the frame that began in state b; a stopped state stays
-pub record Does (ks : List ℕ) (d : ℕ) (p : Plan) (b s s′ : State) : Type 0 where
-  pub stays : (s .0 .answer ≡ 0 → ⊥) → s′ ≡ s
-  pub runs : s .0 .answer ≡ 0 → (f : Forest) → Ran ks d p b f s s′
+-- a stop stays: its answer and its place
+pub record Stays (s s′ : Seen) : Type 0 where
+  pub answers : s′ .0 .answer ≡ s .0 .answer
+  pub places : s′ .0 .at ≡ s .0 .at
 
--- in the frame that began where `start` stands
-pub record Within (ks : List ℕ) (d : ℕ) (start : Reading) (p : Plan) (s s′ : State) : Type 0 where
-  pub does : (b : State) → b .0 .at ≡ start .at → b .0 .count ≡ start .count → Does ks d p b s s′
+-- reading by plan p, on the token table ks with d levels of depth left, in the frame that began in state b and has read
+-- a forest of one of the shapes hs
+pub record Does (ks : List ℕ) (d : ℕ) (hs : List ℕ) (p : Plan) (b s s′ : Seen) : Type 0 where
+  pub stays : (s .0 .answer ≡ 0 → ⊥) → Stays s s′
+  pub runs : s .0 .answer ≡ 0 → (f : Forest) → T (elem (shape f) hs) → Ran ks d p b f s s′
+
+-- in the frame that began where `start` stands, with one of the shapes hs before
+pub record From (ks : List ℕ) (d start : ℕ) (hs : List ℕ) (p : Plan) (s s′ : State) : Type 0 where
+  pub does : (b : Seen) → b .0 .at ≡ view start .at → b .0 .count ≡ view start .count →
+      Does ks d hs p b (seen s) (seen s′)
+
+-- the shapes of nothing, and of all but nothing and one node
+abbrev pub nothing : List ℕ
+nothing = 0 ∷ []
+
+abbrev pub several : List ℕ
+several = 2 ∷ []
+
+-- in the frame that began where `start` stands, whatever its shape
+pub record Within (ks : List ℕ) (d start : ℕ) (p : Plan) (s s′ : State) : Type 0 where
+  pub of-any : (hs : List ℕ) → From ks d start hs p s s′
 
 -- in any frame
 pub record Reads (ks : List ℕ) (d : ℕ) (p : Plan) (s s′ : State) : Type 0 where
-  pub in-any : (start : Reading) → Within ks d start p s s′
+  pub in-any : (start : ℕ) (hs : List ℕ) → From ks d start hs p s s′
 
 -- in any frame, whatever the depth
 pub record Flat (ks : List ℕ) (p : Plan) (s s′ : State) : Type 0 where
   pub at-any : (d : ℕ) → Reads ks d p s s′
 
 -- in the frame that began where `start` stands, whatever the depth
-pub record FlatWithin (ks : List ℕ) (start : Reading) (p : Plan) (s s′ : State) : Type 0 where
+pub record FlatWithin (ks : List ℕ) (start : ℕ) (p : Plan) (s s′ : State) : Type 0 where
   pub at-any : (d : ℕ) → Within ks d start p s s′
+
+-- with one of the shapes hs before, whatever the depth
+pub record FlatFrom (ks : List ℕ) (start : ℕ) (hs : List ℕ) (p : Plan) (s s′ : State) : Type 0 where
+  pub at-any : (d : ℕ) → From ks d start hs p s s′
 
 -- rule n, where its plan is p; and whatever the depth
 pub record Follows (ks : List ℕ) (d n : ℕ) (p : Plan) (s s′ : State) : Type 0 where
@@ -96,43 +142,30 @@ pub record FlatFollows (ks : List ℕ) (n : ℕ) (p : Plan) (s s′ : State) : T
   pub reads : idl-table .plan n ≡ p → Flat ks (call n) s s′
 
 -- tokens alone, whatever the depth and the tree table
-pub record Takes (ks : List ℕ) (p : Plan) (s s′ : Reading) : Type 0 where
+pub record Takes (ks : List ℕ) (p : Plan) (s s′ : ℕ) : Type 0 where
   pub reads : (d : ℕ) (w : List ℕ) → Reads ks d p (s, w) (s′, w)
 
--- a rule is begun: nothing read yet
-abbrev pub entered : Reading → Reading
-entered s = record { answer = s .answer; at = s .at; count = s .count; shape = 0 }
+-- a use of rule r is recorded over each of these shapes; over none of them
+unfoldable pub all-recorded : ℕ → List ℕ → Bool
+unfolding recorded idl
+all-recorded r [] = true
+all-recorded r (h ∷ hs) = recorded idl r h && all-recorded r hs
 
--- the state after the next token
-abbrev pub onward : Reading → Reading
-onward s = record { answer = 0; at = s .at + 1; count = s .count; shape = 2 }
+unfoldable pub none-recorded : ℕ → List ℕ → Bool
+unfolding recorded idl
+none-recorded r [] = true
+none-recorded r (h ∷ hs) = not (recorded idl r h) && none-recorded r hs
 
--- the shape of two forests side by side
-unfoldable pub beside : ℕ → ℕ → ℕ
-beside m n = cond (eqb m 0) n (cond (eqb n 0) m 2)
-
--- what was read since `start`, behind what stood there
-abbrev pub left : (start s : Reading) → Reading
-left start s = record { answer = s .answer; at = s .at; count = s .count; shape = beside (start .shape) (s .shape) }
-
--- the record of a use of rule r over what was read since `start`, which counted no more than now
-abbrev pub Written : ℕ → (start s : Reading) → List ℕ → List ℕ → Type 0
-Written r start s w w′ =
-    start .count ≤ s .count → w′ ≡ write w (s .count) (tree-record r (start .at) (s .at) (s .count - start .count + 1))
-
--- what was read since `start` becomes a node of rule r
-pub record Closes (r : ℕ) (start : Reading) (s s′ : State) : Type 0 where
-  pub wraps : (ks : List ℕ) (d : ℕ) → Within ks d start (wrap r) s s′
-
--- and goes behind what stood there
-pub record Leaves (r : ℕ) (start : Reading) (s : State) (o : Reading) (w : List ℕ) : Type 0 where
-  pub inner : Reading
-  pub closes : Closes r start s (inner, w)
-  pub joins : o ≡ left start inner
+-- what was read since `start` becomes a node of rule r, with its record
+pub record Closes (r start : ℕ) (s s′ : State) : Type 0 where
+  pub wraps : (ks : List ℕ) (d : ℕ) (hs : List ℕ) → T (all-recorded r hs) → From ks d start hs (wrap r) s s′
 
 -- an opening mark k, with d levels of depth left
-pub data Opens (ks : List ℕ) (d k : ℕ) (s s′ : Reading) : Type 0 where
-  opens-stopped : (s .answer ≡ 0 → ⊥) → s′ ≡ s → Opens ks d k s s′
-  opens-blamed : s .answer ≡ 0 → (kind-at ks (s .at) ≡ k → ⊥) → s′ .answer ≡ 7 → s′ .at ≡ s .at → Opens ks d k s s′
-  opens-deep : s .answer ≡ 0 → kind-at ks (s .at) ≡ k → d ≡ 0 → s′ .answer ≡ 8 → s′ .at ≡ s .at → Opens ks d k s s′
-  opens-inside : s .answer ≡ 0 → kind-at ks (s .at) ≡ k → 0 < d → s′ ≡ onward s → Opens ks d k s s′
+pub data Opens (ks : List ℕ) (d k : ℕ) (s s′ : ℕ) : Type 0 where
+  opens-stopped : (view s .answer ≡ 0 → ⊥) → s′ ≡ s → Opens ks d k s s′
+  opens-blamed : view s .answer ≡ 0 → (kind-at ks (view s .at) ≡ k → ⊥) → view s′ .answer ≡ 7 →
+      view s′ .at ≡ view s .at → Opens ks d k s s′
+  opens-deep : view s .answer ≡ 0 → kind-at ks (view s .at) ≡ k → d ≡ 0 → view s′ .answer ≡ 8 →
+      view s′ .at ≡ view s .at → Opens ks d k s s′
+  opens-inside : view s .answer ≡ 0 → kind-at ks (view s .at) ≡ k → 0 < d → view s′ .answer ≡ 0 →
+      view s′ .at ≡ view s .at + 1 → view s′ .count ≡ view s .count → Opens ks d k s s′

@@ -1,15 +1,15 @@
--- An operator and its right operand, as one of a level's operators is next; and what each level is, by its number.
--- The next kind tells the choice; the six levels are computed. Assumes nothing.
-use Prim.Native.Nat.{ℕ, _+_, _≤_}
+-- What each level of binary operators is, by its number; what the level of a kind tells; and an operator of a level with its
+-- right operand, where it is next. The six levels are computed. Assumes nothing.
+use Prim.Native.Nat.{ℕ, zero, suc, _+_, _≤_, _<_}
 use native.Mathlib.Omega.{arith}
 use mathlib.Core.Path.{_≡_, refl, sym, _∙_, subst}
-use mathlib.Core.Bool.{false, not}
+use mathlib.Core.Bool.{Bool, true, false, not, _&&_, cond}
 use mathlib.Core.List.{List, [], _∷_}
-use mathlib.Core.Logic.{_⊎_, inl, inr}
-use lib.Dec.{T, T-not, eqb, eqb→eq, eqb-refl}
+use mathlib.Core.Logic.{_⊎_, inl, inr, ⊎-elim}
+use lib.Dec.{T, T-not, eqb, eqb→eq, eqb-refl, leb, leb→le}
 use Rattle.grammar.specs.Forest.{Forest}
 use Rattle.grammar.specs.Sets.{elem}
-use Rattle.prediction.specs.Sets.{decide, or-left, or-cases, only}
+use Rattle.prediction.specs.Sets.{decide, and-left, and-right, or-left, or-cases, only}
 use Rattle.prediction.specs.Plan.{Plan, token, call, wrap, seq, alt, many}
 use Rattle.prediction.specs.Typing.{null, first}
 use Rattle.prediction.specs.Run.{Outcome, Runs}
@@ -18,12 +18,104 @@ use Rattle.prediction.specs.Columns.{plan-at, round}
 use Rattle.prediction.specs.Check.{all-typed, null-exactly, table}
 use Rattle.prediction.specs.IdlPlans.{idl-prediction}
 use Rattle.prediction.specs.IdlChecked.{idl-checked, idl-table}
-use Rattle.readers_core.specs.Reading.{kind-at, ahead, State, Within}
-use Rattle.readers_core.specs.declared.Reading.{Reading}
-use Rattle.readers_core.proofs.Choosing.{among, except, is-over}
+use Rattle.readers_core.specs.Reading.{kind-at, ahead, view, State, From, several, all-recorded, none-recorded}
+use Rattle.readers_core.proofs.Choosing.{among, except, is-over, row}
 use Rattle.readers_core.proofs.Frames.{ahead-kind}
 use Rattle.readers_core.proofs.Repetition.{repeats}
-use Rattle.readers_expressions.specs.Levels.{operators, one-before, further-operand}
+use Rattle.readers_core.proofs.Shapes.{leaves}
+use Rattle.readers_expressions.specs.Levels.{operators, one-before, further-operand, first-with, level-of}
+
+-- a test holds of each of these kinds
+unfoldable pub each-kind : (ℕ → Bool) → List ℕ → Bool
+each-kind f [] = true
+each-kind f (k ∷ ks) = f k && each-kind f ks
+
+kind-at-hand : (f : ℕ → Bool) (ks : List ℕ) (x : ℕ) → T (each-kind f ks) → T (elem x ks) → T (f x)
+unfolding each-kind elem
+kind-at-hand f [] x u v = absurd v
+kind-at-hand f (k ∷ ks) x u v =
+    ⊎-elim (λ e. subst (λ (y : ℕ). T (f y)) (sym (eqb→eq x k e)) (and-left (f k) (each-kind f ks) u))
+    (kind-at-hand f ks x (and-right (f k) (each-kind f ks) u)) (or-cases (eqb x k) (elem x ks) v)
+
+-- what a level is: its first operand, alone without a record, and further ones as long as its operators are next; these are
+-- operators of no other level, and stand between the first and the last of all
+pub record Level (n : ℕ) : Type 0 where
+  pub plan : idl-table .plan n ≡ seq (call (n + 1)) (seq (wrap n) (many (further-operand n)))
+  pub alone : T (none-recorded n (1 ∷ []))
+  pub together : T (all-recorded n several)
+  pub joined : (hs : List ℕ) → T (all-recorded n (leaves (one-before (operators n) (call (n + 1))) hs))
+  pub goes-on : T (repeats (among (operators n)) (further-operand n))
+  pub is-over : T (is-over idl-table (except (operators n ∷ [])) (further-operand n))
+  pub own : T (each-kind (λ k. eqb (level-of k) n) (operators n))
+  pub within : T (each-kind (λ k. leb 77 k && leb k 86) (operators n))
+
+pub apart : (m n : ℕ) → (m ≡ n) ⊎ (m ≡ n → ⊥)
+apart m n = ⊎-elim (λ u. inl (eqb→eq m n u))
+    (λ u. inr (λ e. T-not (eqb m n) u (subst (λ (y : ℕ). T (eqb m y)) e (eqb-refl m)))) (decide (eqb m n))
+
+each : (P : ℕ → Type 0) → P 30 → P 31 → P 32 → P 33 → P 34 → P 35 → (n : ℕ) → 30 ≤ n → n ≤ 35 → P n
+each P a b c d e f n h l =
+    is 30 a (λ m0. is 31 b (λ m1. is 32 c (λ m2. is 33 d (λ m3. is 34 e (λ m4. is 35 f (λ m5. absurd (omega arith)))))))
+  where
+    is : (m : ℕ) → P m → ((n ≡ m → ⊥) → P n) → P n
+    is m p q = ⊎-elim (λ u. subst P (sym u) p) q (apart n m)
+
+pub at-level : (n : ℕ) → 30 ≤ n → n ≤ 35 → Level n
+unfolding elem table round plan-at idl-prediction operators one-before further-operand repeats is-over
+    each-kind level-of leaves all-recorded none-recorded
+at-level =
+    each Level
+    (record { plan = refl; alone = tt; together = tt; joined = λ _. tt; goes-on = tt; is-over = tt; own = tt; within = tt })
+    (record { plan = refl; alone = tt; together = tt; joined = λ _. tt; goes-on = tt; is-over = tt; own = tt; within = tt })
+    (record { plan = refl; alone = tt; together = tt; joined = λ _. tt; goes-on = tt; is-over = tt; own = tt; within = tt })
+    (record { plan = refl; alone = tt; together = tt; joined = λ _. tt; goes-on = tt; is-over = tt; own = tt; within = tt })
+    (record { plan = refl; alone = tt; together = tt; joined = λ _. tt; goes-on = tt; is-over = tt; own = tt; within = tt })
+    (record { plan = refl; alone = tt; together = tt; joined = λ _. tt; goes-on = tt; is-over = tt; own = tt; within = tt })
+
+-- an operator of a level is of no other, and stands between the first and the last
+pub of-level : {n : ℕ} (x : ℕ) → Level n → T (elem x (operators n)) → level-of x ≡ n
+of-level {n} x l u = eqb→eq (level-of x) n (kind-at-hand (λ k. eqb (level-of k) n) (operators n) x (l .own) u)
+
+between : {n x : ℕ} → Level n → T (elem x (operators n)) → (77 ≤ x) × (x ≤ 86)
+between {n} {x} l u =
+    let h = kind-at-hand (λ k. leb 77 k && leb k 86) (operators n) x (l .within) u in
+    (leb→le 77 x (and-left (leb 77 x) (leb x 86) h), leb→le x 86 (and-right (leb 77 x) (leb x 86) h))
+
+-- the level of a kind is 0, or one that it is an operator of
+pub record Found (n x : ℕ) : Type 0 where
+  pub low : 30 ≤ n
+  pub high : n ≤ 35
+  pub has : T (elem x (operators n))
+
+first-found : (x a m : ℕ) → 30 ≤ a → a + m ≤ 36 → (first-with x (row a m) ≡ 0) ⊎ Found (first-with x (row a m)) x
+unfolding first-with row
+first-found x a zero l h = inl refl
+first-found x a (suc m) l h = go (elem x (operators a)) (λ u. u) (first-found x (suc a) m (omega arith) (omega arith))
+  where
+    go : (b : Bool) → (T b → T (elem x (operators a))) → {n : ℕ} → (n ≡ 0) ⊎ Found n x →
+        (cond b a n ≡ 0) ⊎ Found (cond b a n) x
+    go true u v = inr (record { low = l; high = omega arith; has = u tt })
+    go false u v = v
+
+level-found : (x : ℕ) → (level-of x ≡ 0) ⊎ Found (level-of x) x
+unfolding level-of row
+level-found x = first-found x 30 6 (omega arith) (omega arith)
+
+pub leveled : (k x : ℕ) → k ≡ level-of x → 30 ≤ k → Found k x
+leveled k x e low =
+    ⊎-elim (λ z. absurd (omega (arith, e, z))) (λ f. subst (λ (n : ℕ). Found n x) (sym e) f) (level-found x)
+
+pub kind-of : (k x : ℕ) → k ≡ level-of x → 30 ≤ k → 77 ≤ x
+kind-of k x e low = let f = leveled k x e low in between (at-level k (f .low) (f .high)) (f .has) .0
+
+pub bounded : (x : ℕ) → level-of x < 36
+bounded x = ⊎-elim (λ e. omega (arith, e)) (λ f. omega (arith, f .high)) (level-found x)
+
+pub outside : (x : ℕ) → (x < 77) ⊎ (87 ≤ x) → 0 ≡ level-of x
+outside x h = ⊎-elim sym (λ f. absurd (far (between (at-level (level-of x) (f .low) (f .high)) (f .has)))) (level-found x)
+  where
+    far : (77 ≤ x) × (x ≤ 86) → ⊥
+    far b = ⊎-elim (λ u. omega (arith, u, b .0)) (λ u. omega (arith, u, b .1)) h
 
 -- one of the tokens is next, and p behind it
 run-one-before : (s : ℕ → ℕ) {d i : ℕ} (ks : List ℕ) {p : Plan} {f : Forest} {x : Outcome} → T (elem (s i) ks) →
@@ -55,49 +147,21 @@ run-one-before s {d} {i} (k ∷ (l ∷ ls)) {p} {f} {x} u r =
         none (inl z) = T-not (eqb (s i) k) v z
         none (inr z) = z
 
-pub operated : {ks : List ℕ} {d x : ℕ} {p : Plan} {start : Reading} {s s′ : State} (ops : List ℕ) →
-    x ≡ ahead ks (s .0) → T (elem x ops) → Within ks d start (seq (token x) p) s s′ →
-    Within ks d start (one-before ops p) s s′
-operated {ks} {d} {x} {p} {start} {s} ops e u y = record {
+pub operated : {ks : List ℕ} {d x start : ℕ} {p : Plan} {hs : List ℕ} {s s′ : State} (ops : List ℕ) →
+    x ≡ ahead ks (s .0) → T (elem x ops) → From ks d start hs (seq (token x) p) s s′ →
+    From ks d start hs (one-before ops p) s s′
+operated {ks} {d} {x} {p = p} {s = s} ops e u y = record {
   does = λ b i j. record {
     stays = y .does b i j .stays;
-    runs = λ z f.
-        let r = y .does b i j .runs z f in
+    runs = λ z f v.
+        let r = y .does b i j .runs z f v in
         let here = e ∙ ahead-kind ks (s .0) z in
         record {
           outcome = r .outcome;
           run = run-one-before (kind-at ks) ops (subst (λ (n : ℕ). T (elem n ops)) here u)
-              (subst (λ (n : ℕ). Runs idl-table (kind-at ks) d (seq (token n) p) (s .0 .at) f (r .outcome)) here (r .run));
+              (subst (λ (n : ℕ). Runs idl-table (kind-at ks) d (seq (token n) p) (view (s .0) .at) f (r .outcome)) here
+              (r .run));
           ends = r .ends;
         };
   };
 }
-
--- what a level is: its first operand, and further ones as long as its operators are next
-pub record Level (n : ℕ) : Type 0 where
-  pub plan : idl-table .plan n ≡ seq (call (n + 1)) (seq (wrap n) (many (further-operand n)))
-  pub marks : T (not (elem 0 (operators n)))
-  pub goes-on : T (repeats (among (operators n)) (further-operand n))
-  pub is-over : T (is-over idl-table (except (operators n ∷ [])) (further-operand n))
-
-each : (P : ℕ → Type 0) → P 30 → P 31 → P 32 → P 33 → P 34 → P 35 → (n : ℕ) → 30 ≤ n → n ≤ 35 → P n
-each P a b c d e f n h l =
-    is 30 a (λ m0. is 31 b (λ m1. is 32 c (λ m2. is 33 d (λ m3. is 34 e (λ m4. is 35 f (λ m5. absurd (omega arith)))))))
-  where
-    is : (m : ℕ) → P m → ((n ≡ m → ⊥) → P n) → P n
-    is m p q = go (decide (eqb n m))
-      where
-        go : T (eqb n m) ⊎ T (not (eqb n m)) → P n
-        go (inl u) = subst P (sym (eqb→eq n m u)) p
-        go (inr u) = q (λ z. T-not (eqb n m) u (subst (λ (y : ℕ). T (eqb n y)) z (eqb-refl n)))
-
-pub at-level : (n : ℕ) → 30 ≤ n → n ≤ 35 → Level n
-unfolding elem table round plan-at idl-prediction operators one-before further-operand repeats is-over
-at-level =
-    each Level
-    (record { plan = refl; marks = tt; goes-on = tt; is-over = tt })
-    (record { plan = refl; marks = tt; goes-on = tt; is-over = tt })
-    (record { plan = refl; marks = tt; goes-on = tt; is-over = tt })
-    (record { plan = refl; marks = tt; goes-on = tt; is-over = tt })
-    (record { plan = refl; marks = tt; goes-on = tt; is-over = tt })
-    (record { plan = refl; marks = tt; goes-on = tt; is-over = tt })

@@ -1,11 +1,10 @@
 -- A test on a set of kinds, one kind at a time.
 -- By the cases of each test. Assumes nothing.
-use Prim.Native.Nat.{ℕ, zero, suc, _<_}
-use native.Mathlib.Omega.{arith}
+use Prim.Native.Nat.{ℕ}
 use mathlib.Core.Path.{_≡_, refl, sym, _∙_, subst}
-use mathlib.Core.Bool.{Bool, true, false, not, _||_}
+use mathlib.Core.Bool.{Bool, true, false, _||_}
 use mathlib.Core.List.{List, [], _∷_}
-use lib.Dec.{T, T-not, eqb, eqb→eq, eqb-refl}
+use lib.Dec.{T, eqb, eqb→eq, eqb-refl}
 use Rattle.grammar.specs.Sets.{elem}
 use Rattle.readers_core.proofs.Choosing.{AnyOf, any-elem}
 
@@ -41,8 +40,3 @@ holds x ks e h = subst (λ (y : Bool). T y) (sym (sym e ∙ h)) tt
 
 pub fails : {b : Bool} (x : ℕ) (ks : List ℕ) → b ≡ elem x ks → b ≡ false → AnyOf ks x → ⊥
 fails x ks e h a = subst (λ (y : Bool). T y) (sym e ∙ h) (any-elem ks x a)
-
--- a kind of a set without 0
-pub some-kind : (x : ℕ) (ks : List ℕ) → T (not (elem 0 ks)) → T (elem x ks) → 0 < x
-some-kind zero ks u v = absurd (T-not (elem 0 ks) u v)
-some-kind (suc x) ks u v = omega arith

@@ -2,7 +2,9 @@
 -- Assumes nothing: these are definitions.
 use Prim.Native.Nat.{ℕ, _+_, _-_}
 use mathlib.Core.List.{List, [], _∷_}
+use mathlib.Core.Bool.{cond}
 use lib.ListN.{getD}
+use Rattle.grammar.specs.Sets.{elem}
 use Rattle.prediction.specs.Plan.{Plan, token, call, wrap, seq, alt, skip}
 
 -- the unary operators
@@ -24,3 +26,14 @@ one-before (k ∷ (l ∷ ls)) p = alt (seq (token k) p) (one-before (l ∷ ls) p
 unfoldable pub further-operand : ℕ → Plan
 unfolding operators one-before
 further-operand n = seq (one-before (operators n) (call (n + 1))) (wrap n)
+
+-- the first of these levels that has the operator
+unfoldable pub first-with : ℕ → List ℕ → ℕ
+unfolding operators elem
+first-with k [] = 0
+first-with k (n ∷ ns) = cond (elem k (operators n)) n (first-with k ns)
+
+-- the level that a kind is an operator of, 0 where it is of none
+unfoldable pub level-of : ℕ → ℕ
+unfolding first-with
+level-of k = first-with k (30 ∷ 31 ∷ 32 ∷ 33 ∷ 34 ∷ 35 ∷ [])

@@ -1,37 +1,30 @@
 // Readers of constant expressions. The six levels of binary operators, (30) to (35), are one reader over the level.
 ghost use mathlib.Core.Path.{_≡_};
-ghost use Prim.Native.Nat.{_≤_};
+ghost use Prim.Native.Nat.{_≤_, _<_};
 ghost use Rattle.grammar.specs.Sets.{elem};
-ghost use Rattle.prediction.specs.Plan.{call, group, many};
-ghost use Rattle.readers_core.specs.Reading.{Short, Flat, Reads, Within};
-ghost use Rattle.readers_expressions.specs.Levels.{signs, operators, further-operand};
+ghost use Rattle.prediction.specs.Plan.{call, group};
+ghost use Rattle.readers_core.specs.Reading.{ahead, Short, Flat, Reads};
+ghost use Rattle.readers_expressions.specs.Levels.{signs, level-of};
 use readers_core::Reading;
-use readers_core::close;
-use readers_core::enter;
-use readers_core::join;
+use readers_core::has_stopped;
 use readers_core::kind;
-use readers_core::leave;
 use readers_core::next_kind;
+use readers_core::node;
 use readers_core::open;
 use readers_core::take;
 
-// Whether the kind is an operator of the level.
-fn is_operator(kind: u32, level: u32) -> bool
-    requires { ⌜ (30 ≤ level) × (level ≤ 35) ⌝ }
-    ensures { λ r. ⌜ r ≡ elem kind (operators level) ⌝ }
+// The rule that a binary operator belongs to, 0 for any other kind.
+fn level_of(kind: u32) -> u32
+    ensures { λ r. ⌜ r ≡ level-of kind ⌝ }
 {
-    match level {
-        30 => kind == kind::BAR,
-        31 => kind == kind::CARET,
-        32 => kind == kind::AMPERSAND,
-        33 => kind == kind::SHIFT_RIGHT || kind == kind::SHIFT_LEFT,
-        34 => kind == kind::PLUS || kind == kind::MINUS,
-        _ => {
-            if kind == kind::STAR {
-                return true;
-            }
-            kind == kind::SLASH || kind == kind::PERCENT
-        }
+    match kind {
+        kind::BAR => 30,
+        kind::CARET => 31,
+        kind::AMPERSAND => 32,
+        kind::SHIFT_RIGHT | kind::SHIFT_LEFT => 33,
+        kind::PLUS | kind::MINUS => 34,
+        kind::STAR | kind::SLASH | kind::PERCENT => 35,
+        _ => 0,
     }
 }
 
@@ -50,16 +43,15 @@ fn unary_operator(tokens: &[u32], tree: &mut [u32], s: Reading) -> Reading
     requires { ⌜ Short (now tokens) ⌝ }
     ensures { λ r. ⌜ Flat (now (tokens .entry)) (call 37) (s, now (tree .entry)) (r, now (tree .exit)) ⌝ }
 {
-    let b = enter(s);
-    let next = next_kind(tokens, b);
+    let next = next_kind(tokens, s);
     match next {
         kind::MINUS | kind::TILDE => {
-            let t = take(tokens, b, next);
-            leave(tree, s, t, 37)
+            let t = take(tokens, s, next);
+            node(tree, s, t, 37)
         }
         _ => {
-            let t = take(tokens, b, kind::PLUS);
-            leave(tree, s, t, 37)
+            let t = take(tokens, s, kind::PLUS);
+            node(tree, s, t, 37)
         }
     }
 }
@@ -70,10 +62,10 @@ fn parenthesized(tokens: &[u32], tree: &mut [u32], s: Reading, depth: u32) -> Re
     ensures { λ r. ⌜ Reads (now (tokens .entry)) depth (group 71 (call 29) 72) (s, now (tree .entry)) (r, now (tree .exit)) ⌝ }
 {
     let t = open(tokens, s, kind::OPEN_PARENTHESIS, depth);
-    if t.answer != 0 {
+    if has_stopped(t) {
         return t;
     }
-    let u = binary(tokens, tree, t, depth - 1, 30);
+    let u = binary(&*tokens, tree, t, depth - 1, 30);
     take(tokens, u, kind::CLOSE_PARENTHESIS)
 }
 
@@ -84,13 +76,12 @@ fn primary(tokens: &[u32], tree: &mut [u32], s: Reading, depth: u32) -> Reading
 {
     let next = next_kind(tokens, s);
     match next {
-        kind::IDENTIFIER | kind::SCOPE => readers_names::scoped_name(tokens, tree, s),
+        kind::IDENTIFIER | kind::SCOPE => readers_names::scoped_name(&*tokens, tree, s),
         kind::OPEN_PARENTHESIS => {
-            let b = enter(s);
-            let t = parenthesized(tokens, tree, b, depth);
-            leave(tree, s, t, 38)
+            let t = parenthesized(&*tokens, tree, s, depth);
+            node(tree, s, t, 38)
         }
-        _ => readers_names::literal(tokens, tree, s),
+        _ => readers_names::literal(&*tokens, tree, s),
     }
 }
 
@@ -101,51 +92,30 @@ fn unary(tokens: &[u32], tree: &mut [u32], s: Reading, depth: u32) -> Reading
 {
     let next = next_kind(tokens, s);
     if is_sign(next) {
-        let b = enter(s);
-        let t = unary_operator(tokens, tree, b);
-        let u = primary(tokens, tree, t, depth);
-        return leave(tree, s, u, 36);
+        let t = unary_operator(&*tokens, tree, s);
+        let u = primary(&*tokens, tree, t, depth);
+        return node(tree, s, u, 36);
     }
-    primary(tokens, tree, s, depth)
+    primary(&*tokens, tree, s, depth)
 }
 
-// (30) to (35), a level of binary operators; (36) behind them.
+// (30) to (36): operands, and the operators between them of this level and above. Each makes all before it one node, once
+// its right operand is read, which holds only tighter operators.
 fn binary(tokens: &[u32], tree: &mut [u32], s: Reading, depth: u32, level: u32) -> Reading
     requires { ⌜ Short (now tokens) × (30 ≤ level) × (level ≤ 36) ⌝ }
     ensures { λ r. ⌜ Reads (now (tokens .entry)) depth (call level) (s, now (tree .entry)) (r, now (tree .exit)) ⌝ }
+    ensures looser { λ r. ⌜ level-of (ahead (now (tokens .entry)) r) < level ⌝ }
 {
-    if level == 36 {
-        return unary(tokens, tree, s, depth);
-    }
-    let b = enter(s);
-    let t = binary(tokens, tree, b, depth, level + 1);
-    let u = close(tree, s, t, level);
-    let v = further_operands(tokens, tree, s, u, depth, level);
-    join(s, v)
-}
-
-// Operators of the level and their right operands; each makes all before it one node.
-fn further_operands(
-    tokens: &[u32],
-    tree: &mut [u32],
-    start: Reading,
-    s: Reading,
-    depth: u32,
-    level: u32,
-) -> Reading
-    requires { ⌜ Short (now tokens) × (30 ≤ level) × (level ≤ 35) ⌝ }
-    ensures { λ r. ⌜ Within (now (tokens .entry)) depth start (many (further-operand level)) (s, now (tree .entry)) (r, now (tree .exit)) ⌝ }
-{
-    let mut t = s;
+    let mut t = unary(&*tokens, tree, s, depth);
     loop {
         let next = next_kind(tokens, t);
-        if is_operator(next, level) {
-            let mark = take(tokens, t, next);
-            let operand = binary(tokens, tree, mark, depth, level + 1);
-            t = close(tree, start, operand, level);
-        } else {
+        let found = level_of(next);
+        if found < level {
             return t;
         }
+        let mark = take(tokens, t, next);
+        let operand = binary(&*tokens, tree, mark, depth, found + 1);
+        t = node(tree, s, operand, found);
     }
 }
 
@@ -154,7 +124,7 @@ pub fn const_exp(tokens: &[u32], tree: &mut [u32], s: Reading, depth: u32) -> Re
     requires { ⌜ Short (now tokens) ⌝ }
     ensures { λ r. ⌜ Reads (now (tokens .entry)) depth (call 29) (s, now (tree .entry)) (r, now (tree .exit)) ⌝ }
 {
-    binary(tokens, tree, s, depth, 30)
+    binary(&*tokens, tree, s, depth, 30)
 }
 
 // (41) positive_int_const
@@ -162,5 +132,5 @@ pub fn positive_int_const(tokens: &[u32], tree: &mut [u32], s: Reading, depth: u
     requires { ⌜ Short (now tokens) ⌝ }
     ensures { λ r. ⌜ Reads (now (tokens .entry)) depth (call 41) (s, now (tree .entry)) (r, now (tree .exit)) ⌝ }
 {
-    const_exp(tokens, tree, s, depth)
+    const_exp(&*tokens, tree, s, depth)
 }

@@ -6,8 +6,8 @@ use Rattle.grammar.specs.Forest.{Forest}
 use Rattle.prediction.specs.Plan.{Plan, token, group, call, wrap, seq, alt, skip, many}
 use Rattle.prediction.specs.Run.{Outcome, done, stopped, Runs, run-seq, run-seq-stop}
 use Rattle.prediction.specs.IdlChecked.{idl-table}
-use Rattle.readers_core.specs.Reading.{kind-at, State, Within}
-use Rattle.readers_core.specs.declared.Reading.{Reading}
+use Rattle.readers_core.specs.Reading.{kind-at, State, From}
+use Rattle.readers_core.proofs.Shapes.{leaves}
 use Rattle.readers_core.proofs.Sequence.{_▸_}
 
 -- the parts of the first plan, and the second behind them
@@ -37,14 +37,14 @@ run-append skip r = r
 run-append (many a) r = r
 
 infixr 5 _▸▸_
-pub _▸▸_ : {ks : List ℕ} {d : ℕ} {p e : Plan} {start : Reading} {s s′ s″ : State} → Within ks d start p s s′ →
-    Within ks d start e s′ s″ → Within ks d start (append p e) s s″
+pub _▸▸_ : {ks : List ℕ} {d start : ℕ} {hs : List ℕ} {p e : Plan} {s s′ s″ : State} → From ks d start hs p s s′ →
+    From ks d start (leaves p hs) e s′ s″ → From ks d start hs (append p e) s s″
 _▸▸_ {p = p} x y = record {
   does = λ b i j.
       let z = (x ▸ y) .does b i j in
       record {
         stays = z .stays;
-        runs = λ g f. let r = z .runs g f in
+        runs = λ g f v. let r = z .runs g f v in
             record { outcome = r .outcome; run = run-append p (r .run); ends = r .ends };
       };
 }

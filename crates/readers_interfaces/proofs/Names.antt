@@ -4,25 +4,27 @@ use Prim.Native.Nat.{ℕ}
 use mathlib.Core.Path.{refl, ap}
 use mathlib.Core.List.{List, []}
 use Rattle.grammar.specs.Idl.{idl}
-use Rattle.grammar.specs.Record.{recorded}
 use Rattle.prediction.specs.Plan.{Plan, call}
 use Rattle.prediction.specs.Columns.{plan-at, round}
 use Rattle.prediction.specs.Check.{table}
 use Rattle.prediction.specs.IdlPlans.{idl-prediction}
 use Rattle.prediction.specs.IdlChecked.{idl-table}
-use Rattle.readers_core.specs.Reading.{State, Reads}
+use Rattle.readers_core.specs.Reading.{Reads, none-recorded}
 use Rattle.readers_core.proofs.Choosing.{Knows, except, choose}
-use Rattle.readers_core.proofs.Chain.{passed-on, single}
+use Rattle.readers_core.proofs.Frames.{passed-on}
+use Rattle.readers_core.proofs.Shapes.{leaves}
 use Rattle.readers_interfaces.specs.Plans.{Names}
 
 pub interface-names : Names 11
-unfolding table round plan-at idl-prediction recorded idl
+unfolding table round plan-at idl-prediction none-recorded idl
 interface-names = record { plan-is = refl; no-record = tt }
 
 pub value-names : Names 20
-unfolding table round plan-at idl-prediction recorded idl
+unfolding table round plan-at idl-prediction none-recorded idl
 value-names = record { plan-is = refl; no-record = tt }
 
-pub by-name : {n : ℕ} {ks : List ℕ} {d : ℕ} {s s′ : State} → Names n → Reads ks d (call 12) s s′ → Reads ks d (call n) s s′
-unfolding choose Knows single
-by-name {n} h x = passed-on n (except []) refl tt (ap (λ (p : Plan). choose idl-table (except []) p) (h .plan-is)) (h .no-record) x
+pub by-name : {n : ℕ} {ks : List ℕ} {d s u : ℕ} {w w′ : List ℕ} → Names n → Reads ks d (call 12) (s, w) (u, w′) →
+    Reads ks d (call n) (s, w) (u, w′)
+unfolding choose Knows leaves
+by-name {n} h x =
+    passed-on n (except []) refl tt (ap (λ (p : Plan). choose idl-table (except []) p) (h .plan-is)) (h .no-record) x

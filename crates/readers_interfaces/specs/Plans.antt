@@ -2,19 +2,16 @@
 -- Assumes nothing: these are definitions.
 use Prim.Native.Nat.{ℕ}
 use mathlib.Core.Path.{_≡_}
-use mathlib.Core.Bool.{not}
 use mathlib.Core.List.{List, [], _∷_}
 use lib.Dec.{T}
-use Rattle.grammar.specs.Idl.{idl}
-use Rattle.grammar.specs.Record.{recorded}
 use Rattle.prediction.specs.Plan.{Plan, token, group, call, wrap, seq, alt, skip, many}
 use Rattle.prediction.specs.IdlChecked.{idl-table}
-use Rattle.readers_core.specs.Reading.{State, Flat}
+use Rattle.readers_core.specs.Reading.{State, Flat, none-recorded}
 
 -- rule n is a scoped name alone: (11) interface_name, (20) value_name
 pub record Names (n : ℕ) : Type 0 where
   pub plan-is : idl-table .plan n ≡ seq (call 12) (wrap n)
-  pub no-record : T (not (recorded idl n 1))
+  pub no-record : T (none-recorded n (1 ∷ []))
 
 -- uses of rule n, with commas between them
 abbrev pub further : ℕ → Plan

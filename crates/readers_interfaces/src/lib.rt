@@ -3,15 +3,14 @@
 ghost use mathlib.Core.Path.{_≡_};
 ghost use Rattle.grammar.specs.Sets.{elem};
 ghost use Rattle.prediction.specs.Plan.{call, many};
-ghost use Rattle.readers_core.specs.Reading.{Short, Flat, Reads, Within};
+ghost use Rattle.readers_core.specs.Reading.{Short, Flat, From, Reads, Within, several};
 ghost use Rattle.readers_interfaces.specs.Plans.{ReadsNames, optional-bases, exported, braced-body, interface-body};
 ghost use Rattle.readers_interfaces.specs.Plans.{interface-rest, type-dcl-starts, export-starts};
 use readers_core::Reading;
-use readers_core::close;
-use readers_core::enter;
+use readers_core::has_stopped;
 use readers_core::kind;
-use readers_core::leave;
 use readers_core::next_kind;
+use readers_core::node;
 use readers_core::open;
 use readers_core::take;
 use readers_names::scoped_name;
@@ -26,10 +25,10 @@ pub fn scoped_names(tokens: &[u32], tree: &mut [u32], s: Reading) -> Reading
     requires { ⌜ Short (now tokens) ⌝ }
     ensures { λ r. ⌜ ReadsNames (now (tokens .entry)) (s, now (tree .entry)) (r, now (tree .exit)) ⌝ }
 {
-    let mut t = scoped_name(tokens, tree, s);
+    let mut t = scoped_name(&*tokens, tree, s);
     while next_kind(tokens, t) == kind::COMMA {
         let mark = take(tokens, t, kind::COMMA);
-        t = scoped_name(tokens, tree, mark);
+        t = scoped_name(&*tokens, tree, mark);
     }
     t
 }
@@ -39,10 +38,9 @@ fn interface_inheritance_spec(tokens: &[u32], tree: &mut [u32], s: Reading) -> R
     requires { ⌜ Short (now tokens) ⌝ }
     ensures { λ r. ⌜ Flat (now (tokens .entry)) (call 10) (s, now (tree .entry)) (r, now (tree .exit)) ⌝ }
 {
-    let b = enter(s);
-    let t = take(tokens, b, kind::COLON);
-    let u = scoped_names(tokens, tree, t);
-    leave(tree, s, u, 10)
+    let t = take(tokens, s, kind::COLON);
+    let u = scoped_names(&*tokens, tree, t);
+    node(tree, s, u, 10)
 }
 
 // The bases of an interface, if any.
@@ -52,7 +50,7 @@ fn bases(tokens: &[u32], tree: &mut [u32], s: Reading) -> Reading
 {
     let next = next_kind(tokens, s);
     match next {
-        kind::COLON => interface_inheritance_spec(tokens, tree, s),
+        kind::COLON => interface_inheritance_spec(&*tokens, tree, s),
         _ => s,
     }
 }
@@ -96,24 +94,24 @@ fn exported(tokens: &[u32], tree: &mut [u32], s: Reading, depth: u32) -> Reading
 {
     let next = next_kind(tokens, s);
     if starts_type_dcl(next) {
-        let t = type_dcl(tokens, tree, s, depth);
+        let t = type_dcl(&*tokens, tree, s, depth);
         return take(tokens, t, kind::SEMICOLON);
     }
     match next {
         kind::CONST => {
-            let t = const_dcl(tokens, tree, s, depth);
+            let t = const_dcl(&*tokens, tree, s, depth);
             take(tokens, t, kind::SEMICOLON)
         }
         kind::EXCEPTION => {
-            let t = except_dcl(tokens, tree, s, depth);
+            let t = except_dcl(&*tokens, tree, s, depth);
             take(tokens, t, kind::SEMICOLON)
         }
         kind::READONLY | kind::ATTRIBUTE => {
-            let t = attr_dcl(tokens, tree, s, depth);
+            let t = attr_dcl(&*tokens, tree, s, depth);
             take(tokens, t, kind::SEMICOLON)
         }
         _ => {
-            let t = op_dcl(tokens, tree, s, depth);
+            let t = op_dcl(&*tokens, tree, s, depth);
             take(tokens, t, kind::SEMICOLON)
         }
     }
@@ -124,9 +122,8 @@ pub fn export(tokens: &[u32], tree: &mut [u32], s: Reading, depth: u32) -> Readi
     requires { ⌜ Short (now tokens) ⌝ }
     ensures { λ r. ⌜ Reads (now (tokens .entry)) depth (call 9) (s, now (tree .entry)) (r, now (tree .exit)) ⌝ }
 {
-    let b = enter(s);
-    let t = exported(tokens, tree, b, depth);
-    leave(tree, s, t, 9)
+    let t = exported(&*tokens, tree, s, depth);
+    node(tree, s, t, 9)
 }
 
 // Exports, as many as there are.
@@ -136,7 +133,7 @@ pub fn exports(tokens: &[u32], tree: &mut [u32], s: Reading, depth: u32) -> Read
 {
     let mut t = s;
     while starts_export(next_kind(tokens, t)) {
-        t = export(tokens, tree, t, depth);
+        t = export(&*tokens, tree, t, depth);
     }
     t
 }
@@ -146,9 +143,8 @@ fn interface_body(tokens: &[u32], tree: &mut [u32], s: Reading, depth: u32) -> R
     requires { ⌜ Short (now tokens) ⌝ }
     ensures { λ r. ⌜ Reads (now (tokens .entry)) depth (call 8) (s, now (tree .entry)) (r, now (tree .exit)) ⌝ }
 {
-    let b = enter(s);
-    let t = exports(tokens, tree, b, depth);
-    leave(tree, s, t, 8)
+    let t = exports(&*tokens, tree, s, depth);
+    node(tree, s, t, 8)
 }
 
 // A body in braces, at one level of depth less.
@@ -157,10 +153,10 @@ fn braced_body(tokens: &[u32], tree: &mut [u32], s: Reading, depth: u32) -> Read
     ensures { λ r. ⌜ Reads (now (tokens .entry)) depth braced-body (s, now (tree .entry)) (r, now (tree .exit)) ⌝ }
 {
     let t = open(tokens, s, kind::OPEN_BRACE, depth);
-    if t.answer != 0 {
+    if has_stopped(t) {
         return t;
     }
-    let u = interface_body(tokens, tree, t, depth - 1);
+    let u = interface_body(&*tokens, tree, t, depth - 1);
     take(tokens, u, kind::CLOSE_BRACE)
 }
 
@@ -173,12 +169,12 @@ fn interface_dcl(
     depth: u32,
 ) -> Reading
     requires { ⌜ Short (now tokens) ⌝ }
-    ensures { λ r. ⌜ Within (now (tokens .entry)) depth start interface-body (s, now (tree .entry)) (r, now (tree .exit)) ⌝ }
+    ensures { λ r. ⌜ From (now (tokens .entry)) depth start several interface-body (s, now (tree .entry)) (r, now (tree .exit)) ⌝ }
 {
-    let t = bases(tokens, tree, s);
-    let u = close(tree, start, t, 7);
-    let v = braced_body(tokens, tree, u, depth);
-    close(tree, start, v, 5)
+    let t = bases(&*tokens, tree, s);
+    let u = node(tree, start, t, 7);
+    let v = braced_body(&*tokens, tree, u, depth);
+    node(tree, start, v, 5)
 }
 
 // (4) interface, from "interface" on: one with a body, or (6) forward_dcl.
@@ -196,13 +192,7 @@ pub fn interface(
     let u = take(tokens, t, kind::IDENTIFIER);
     let next = next_kind(tokens, u);
     match next {
-        kind::COLON | kind::OPEN_BRACE => {
-            let v = interface_dcl(tokens, tree, start, u, depth);
-            close(tree, start, v, 4)
-        }
-        _ => {
-            let v = close(tree, start, u, 6);
-            close(tree, start, v, 4)
-        }
+        kind::COLON | kind::OPEN_BRACE => interface_dcl(&*tokens, tree, start, u, depth),
+        _ => node(tree, start, u, 6),
     }
 }

@@ -1,16 +1,13 @@
 // Readers of names, literals and basic types: the rules that hold no expression.
 ghost use Rattle.prediction.specs.Plan.{call, seq, many, token, wrap};
-ghost use Rattle.readers_core.specs.Reading.{Short, Takes, Flat, FlatWithin, FlatFollows};
+ghost use Rattle.readers_core.specs.Reading.{Short, Takes, Flat, FlatFrom, FlatWithin, FlatFollows, nothing, several};
 ghost use Rattle.readers_names.specs.Plans.{first-name, further-name, behind-long, behind-unsigned, long-number};
 ghost use Rattle.readers_names.specs.Plans.{short-number, number-type};
 ghost use Prim.Native.Nat.{_<_};
 use readers_core::Reading;
-use readers_core::close;
-use readers_core::enter;
-use readers_core::join;
 use readers_core::kind;
-use readers_core::leave;
 use readers_core::next_kind;
+use readers_core::node;
 use readers_core::take;
 
 // The first name, which "::" may precede.
@@ -37,7 +34,7 @@ fn further_names(tokens: &[u32], tree: &mut [u32], start: Reading, s: Reading) -
     while next_kind(tokens, t) == kind::SCOPE {
         let mark = take(tokens, t, kind::SCOPE);
         let name = take(tokens, mark, kind::IDENTIFIER);
-        t = close(tree, start, name, 12);
+        t = node(tree, start, name, 12);
     }
     t
 }
@@ -47,11 +44,9 @@ pub fn scoped_name(tokens: &[u32], tree: &mut [u32], s: Reading) -> Reading
     requires { ⌜ Short (now tokens) ⌝ }
     ensures { λ r. ⌜ Flat (now (tokens .entry)) (call 12) (s, now (tree .entry)) (r, now (tree .exit)) ⌝ }
 {
-    let b = enter(s);
-    let t = first_name(tokens, b);
-    let u = close(tree, s, t, 12);
-    let v = further_names(tokens, tree, s, u);
-    join(s, v)
+    let t = first_name(&*tokens, s);
+    let u = node(tree, s, t, 12);
+    further_names(&*tokens, tree, s, u)
 }
 
 // A rule that is one token, as (63) char_type.
@@ -59,23 +54,22 @@ pub fn word(tokens: &[u32], tree: &mut [u32], s: Reading, word: u32, rule: u32) 
     requires { ⌜ Short (now tokens) × (0 < word) ⌝ }
     ensures { λ r. ⌜ FlatFollows (now (tokens .entry)) rule (seq (token word) (wrap rule)) (s, now (tree .entry)) (r, now (tree .exit)) ⌝ }
 {
-    let b = enter(s);
-    let t = take(tokens, b, word);
-    leave(tree, s, t, rule)
+    let t = take(tokens, s, word);
+    node(tree, s, t, rule)
 }
 
 // Behind "long": a second "long" or nothing.
 fn behind_long(tokens: &[u32], tree: &mut [u32], start: Reading, s: Reading) -> Reading
     requires { ⌜ Short (now tokens) ⌝ }
-    ensures { λ r. ⌜ FlatWithin (now (tokens .entry)) start behind-long (s, now (tree .entry)) (r, now (tree .exit)) ⌝ }
+    ensures { λ r. ⌜ FlatFrom (now (tokens .entry)) start several behind-long (s, now (tree .entry)) (r, now (tree .exit)) ⌝ }
 {
     let next = next_kind(tokens, s);
     match next {
         kind::LONG => {
             let t = take(tokens, s, kind::LONG);
-            close(tree, start, t, 58)
+            node(tree, start, t, 58)
         }
-        _ => close(tree, start, s, 57),
+        _ => node(tree, start, s, 57),
     }
 }
 
@@ -84,18 +78,15 @@ fn signed_int(tokens: &[u32], tree: &mut [u32], s: Reading) -> Reading
     requires { ⌜ Short (now tokens) ⌝ }
     ensures { λ r. ⌜ Flat (now (tokens .entry)) (call 55) (s, now (tree .entry)) (r, now (tree .exit)) ⌝ }
 {
-    let b = enter(s);
-    let next = next_kind(tokens, b);
+    let next = next_kind(tokens, s);
     match next {
         kind::SHORT => {
-            let t = take(tokens, b, kind::SHORT);
-            let u = close(tree, s, t, 56);
-            leave(tree, s, u, 55)
+            let t = take(tokens, s, kind::SHORT);
+            node(tree, s, t, 56)
         }
         _ => {
-            let t = take(tokens, b, kind::LONG);
-            let u = behind_long(tokens, tree, s, t);
-            leave(tree, s, u, 55)
+            let t = take(tokens, s, kind::LONG);
+            behind_long(&*tokens, tree, s, t)
         }
     }
 }
@@ -108,15 +99,15 @@ fn behind_unsigned(tokens: &[u32], tree: &mut [u32], start: Reading, s: Reading)
     let next = next_kind(tokens, s);
     if next == kind::SHORT {
         let t = take(tokens, s, kind::SHORT);
-        return close(tree, start, t, 60);
+        return node(tree, start, t, 60);
     }
     let t = take(tokens, s, kind::LONG);
     let then = next_kind(tokens, t);
     if then == kind::LONG {
         let u = take(tokens, t, kind::LONG);
-        return close(tree, start, u, 62);
+        return node(tree, start, u, 62);
     }
-    close(tree, start, t, 61)
+    node(tree, start, t, 61)
 }
 
 // (59) unsigned_int
@@ -124,10 +115,8 @@ fn unsigned_int(tokens: &[u32], tree: &mut [u32], s: Reading) -> Reading
     requires { ⌜ Short (now tokens) ⌝ }
     ensures { λ r. ⌜ Flat (now (tokens .entry)) (call 59) (s, now (tree .entry)) (r, now (tree .exit)) ⌝ }
 {
-    let b = enter(s);
-    let t = take(tokens, b, kind::UNSIGNED);
-    let u = behind_unsigned(tokens, tree, s, t);
-    leave(tree, s, u, 59)
+    let t = take(tokens, s, kind::UNSIGNED);
+    behind_unsigned(&*tokens, tree, s, t)
 }
 
 // (54) integer_type
@@ -137,54 +126,47 @@ pub fn integer_type(tokens: &[u32], tree: &mut [u32], s: Reading) -> Reading
 {
     let next = next_kind(tokens, s);
     match next {
-        kind::UNSIGNED => unsigned_int(tokens, tree, s),
-        _ => signed_int(tokens, tree, s),
+        kind::UNSIGNED => unsigned_int(&*tokens, tree, s),
+        _ => signed_int(&*tokens, tree, s),
     }
 }
 
 // Behind "long", where a floating type may stand too.
 fn long_number(tokens: &[u32], tree: &mut [u32], start: Reading, s: Reading) -> Reading
     requires { ⌜ Short (now tokens) ⌝ }
-    ensures { λ r. ⌜ FlatWithin (now (tokens .entry)) start long-number (s, now (tree .entry)) (r, now (tree .exit)) ⌝ }
+    ensures { λ r. ⌜ FlatFrom (now (tokens .entry)) start several long-number (s, now (tree .entry)) (r, now (tree .exit)) ⌝ }
 {
     let next = next_kind(tokens, s);
     match next {
         kind::DOUBLE => {
             let t = take(tokens, s, kind::DOUBLE);
-            close(tree, start, t, 53)
+            node(tree, start, t, 53)
         }
-        _ => {
-            let t = behind_long(tokens, tree, start, s);
-            let u = close(tree, start, t, 55);
-            close(tree, start, u, 54)
-        }
+        _ => behind_long(&*tokens, tree, start, s),
     }
 }
 
 // An integer or floating type, where a rule begins: `s` is its beginning.
 pub fn number_type(tokens: &[u32], tree: &mut [u32], s: Reading) -> Reading
     requires { ⌜ Short (now tokens) ⌝ }
-    ensures { λ r. ⌜ FlatWithin (now (tokens .entry)) s number-type (s, now (tree .entry)) (r, now (tree .exit)) ⌝ }
+    ensures { λ r. ⌜ FlatFrom (now (tokens .entry)) s nothing number-type (s, now (tree .entry)) (r, now (tree .exit)) ⌝ }
 {
     let next = next_kind(tokens, s);
     match next {
         kind::LONG => {
             let t = take(tokens, s, kind::LONG);
-            long_number(tokens, tree, s, t)
+            long_number(&*tokens, tree, s, t)
         }
         kind::FLOAT => {
             let t = take(tokens, s, kind::FLOAT);
-            close(tree, s, t, 53)
+            node(tree, s, t, 53)
         }
         kind::DOUBLE => {
             let t = take(tokens, s, kind::DOUBLE);
-            close(tree, s, t, 53)
+            node(tree, s, t, 53)
         }
-        kind::SHORT => short_number(tokens, tree, s),
-        _ => {
-            let t = unsigned_int(tokens, tree, s);
-            close(tree, s, t, 54)
-        }
+        kind::SHORT => short_number(&*tokens, tree, s),
+        _ => unsigned_int(&*tokens, tree, s),
     }
 }
 
@@ -194,9 +176,7 @@ fn short_number(tokens: &[u32], tree: &mut [u32], s: Reading) -> Reading
     ensures { λ r. ⌜ FlatWithin (now (tokens .entry)) s short-number (s, now (tree .entry)) (r, now (tree .exit)) ⌝ }
 {
     let t = take(tokens, s, kind::SHORT);
-    let u = close(tree, s, t, 56);
-    let v = close(tree, s, u, 55);
-    close(tree, s, v, 54)
+    node(tree, s, t, 56)
 }
 
 // (46) base_type_spec
@@ -206,18 +186,18 @@ pub fn base_type_spec(tokens: &[u32], tree: &mut [u32], s: Reading) -> Reading
 {
     let next = next_kind(tokens, s);
     match next {
-        kind::LONG | kind::FLOAT | kind::DOUBLE | kind::SHORT | kind::UNSIGNED => {
-            let b = enter(s);
-            let t = number_type(tokens, tree, b);
-            leave(tree, s, t, 46)
-        }
-        kind::CHAR => word(tokens, tree, s, kind::CHAR, 63),
-        kind::WCHAR => word(tokens, tree, s, kind::WCHAR, 64),
-        kind::BOOLEAN => word(tokens, tree, s, kind::BOOLEAN, 65),
-        kind::OCTET => word(tokens, tree, s, kind::OCTET, 66),
-        kind::ANY => word(tokens, tree, s, kind::ANY, 67),
-        kind::OBJECT => word(tokens, tree, s, kind::OBJECT, 68),
-        _ => word(tokens, tree, s, kind::VALUE_BASE, 98),
+        kind::LONG | kind::FLOAT | kind::DOUBLE | kind::SHORT | kind::UNSIGNED => number_type(
+            &*tokens,
+            tree,
+            s,
+        ),
+        kind::CHAR => word(&*tokens, tree, s, kind::CHAR, 63),
+        kind::WCHAR => word(&*tokens, tree, s, kind::WCHAR, 64),
+        kind::BOOLEAN => word(&*tokens, tree, s, kind::BOOLEAN, 65),
+        kind::OCTET => word(&*tokens, tree, s, kind::OCTET, 66),
+        kind::ANY => word(&*tokens, tree, s, kind::ANY, 67),
+        kind::OBJECT => word(&*tokens, tree, s, kind::OBJECT, 68),
+        _ => word(&*tokens, tree, s, kind::VALUE_BASE, 98),
     }
 }
 
@@ -226,16 +206,15 @@ fn boolean_literal(tokens: &[u32], tree: &mut [u32], s: Reading) -> Reading
     requires { ⌜ Short (now tokens) ⌝ }
     ensures { λ r. ⌜ Flat (now (tokens .entry)) (call 40) (s, now (tree .entry)) (r, now (tree .exit)) ⌝ }
 {
-    let b = enter(s);
-    let next = next_kind(tokens, b);
+    let next = next_kind(tokens, s);
     match next {
         kind::TRUE => {
-            let t = take(tokens, b, kind::TRUE);
-            leave(tree, s, t, 40)
+            let t = take(tokens, s, kind::TRUE);
+            node(tree, s, t, 40)
         }
         _ => {
-            let t = take(tokens, b, kind::FALSE);
-            leave(tree, s, t, 40)
+            let t = take(tokens, s, kind::FALSE);
+            node(tree, s, t, 40)
         }
     }
 }
@@ -247,12 +226,11 @@ pub fn literal(tokens: &[u32], tree: &mut [u32], s: Reading) -> Reading
 {
     let next = next_kind(tokens, s);
     if next < kind::INTEGER {
-        return boolean_literal(tokens, tree, s);
+        return boolean_literal(&*tokens, tree, s);
     }
     if kind::WIDE_STRING_LITERAL < next {
-        return boolean_literal(tokens, tree, s);
+        return boolean_literal(&*tokens, tree, s);
     }
-    let b = enter(s);
-    let t = take(tokens, b, next);
-    leave(tree, s, t, 39)
+    let t = take(tokens, s, next);
+    node(tree, s, t, 39)
 }

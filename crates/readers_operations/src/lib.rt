@@ -6,10 +6,10 @@ ghost use Rattle.readers_core.specs.Reading.{Short, Flat, Reads, Takes};
 ghost use Rattle.readers_operations.specs.Plans.{directions, Listed, further, list-of, parameters, exceptions};
 ghost use Rattle.readers_operations.specs.Plans.{further-strings, contexts};
 use readers_core::Reading;
-use readers_core::enter;
+use readers_core::has_stopped;
 use readers_core::kind;
-use readers_core::leave;
 use readers_core::next_kind;
+use readers_core::node;
 use readers_core::open;
 use readers_core::take;
 use readers_names::scoped_name;
@@ -23,11 +23,10 @@ fn op_type_spec(tokens: &[u32], tree: &mut [u32], s: Reading, depth: u32) -> Rea
 {
     let next = next_kind(tokens, s);
     if next == kind::VOID {
-        let b = enter(s);
-        let t = take(tokens, b, kind::VOID);
-        return leave(tree, s, t, 89);
+        let t = take(tokens, s, kind::VOID);
+        return node(tree, s, t, 89);
     }
-    param_type_spec(tokens, tree, s, depth)
+    param_type_spec(&*tokens, tree, s, depth)
 }
 
 // (92) param_attribute
@@ -35,16 +34,15 @@ fn param_attribute(tokens: &[u32], tree: &mut [u32], s: Reading) -> Reading
     requires { ⌜ Short (now tokens) ⌝ }
     ensures { λ r. ⌜ Flat (now (tokens .entry)) (call 92) (s, now (tree .entry)) (r, now (tree .exit)) ⌝ }
 {
-    let b = enter(s);
-    let next = next_kind(tokens, b);
+    let next = next_kind(tokens, s);
     match next {
         kind::OUT | kind::INOUT => {
-            let t = take(tokens, b, next);
-            leave(tree, s, t, 92)
+            let t = take(tokens, s, next);
+            node(tree, s, t, 92)
         }
         _ => {
-            let t = take(tokens, b, kind::IN);
-            leave(tree, s, t, 92)
+            let t = take(tokens, s, kind::IN);
+            node(tree, s, t, 92)
         }
     }
 }
@@ -54,11 +52,10 @@ fn param_dcl(tokens: &[u32], tree: &mut [u32], s: Reading, depth: u32) -> Readin
     requires { ⌜ Short (now tokens) ⌝ }
     ensures { λ r. ⌜ Reads (now (tokens .entry)) depth (call 91) (s, now (tree .entry)) (r, now (tree .exit)) ⌝ }
 {
-    let b = enter(s);
-    let t = param_attribute(tokens, tree, b);
-    let u = param_type_spec(tokens, tree, t, depth);
-    let v = word(tokens, tree, u, kind::IDENTIFIER, 51);
-    leave(tree, s, v, 91)
+    let t = param_attribute(&*tokens, tree, s);
+    let u = param_type_spec(&*tokens, tree, t, depth);
+    let v = word(&*tokens, tree, u, kind::IDENTIFIER, 51);
+    node(tree, s, v, 91)
 }
 
 // What stands in a list: (12) scoped_name, (51) simple_declarator or (91) param_dcl.
@@ -67,9 +64,9 @@ fn item(tokens: &[u32], tree: &mut [u32], s: Reading, depth: u32, rule: u32) -> 
     ensures { λ r. ⌜ Reads (now (tokens .entry)) depth (call rule) (s, now (tree .entry)) (r, now (tree .exit)) ⌝ }
 {
     match rule {
-        12 => scoped_name(tokens, tree, s),
-        51 => word(tokens, tree, s, kind::IDENTIFIER, 51),
-        _ => param_dcl(tokens, tree, s, depth),
+        12 => scoped_name(&*tokens, tree, s),
+        51 => word(&*tokens, tree, s, kind::IDENTIFIER, 51),
+        _ => param_dcl(&*tokens, tree, s, depth),
     }
 }
 
@@ -81,7 +78,7 @@ fn further(tokens: &[u32], tree: &mut [u32], s: Reading, depth: u32, rule: u32) 
     let mut t = s;
     while next_kind(tokens, t) == kind::COMMA {
         let mark = take(tokens, t, kind::COMMA);
-        t = item(tokens, tree, mark, depth, rule);
+        t = item(&*tokens, tree, mark, depth, rule);
     }
     t
 }
@@ -91,8 +88,8 @@ fn list(tokens: &[u32], tree: &mut [u32], s: Reading, depth: u32, rule: u32) -> 
     requires { ⌜ Short (now tokens) × Listed rule ⌝ }
     ensures { λ r. ⌜ Reads (now (tokens .entry)) depth (list-of rule) (s, now (tree .entry)) (r, now (tree .exit)) ⌝ }
 {
-    let t = item(tokens, tree, s, depth, rule);
-    further(tokens, tree, t, depth, rule)
+    let t = item(&*tokens, tree, s, depth, rule);
+    further(&*tokens, tree, t, depth, rule)
 }
 
 // Whether the kind begins a parameter.
@@ -111,12 +108,12 @@ fn parameters(tokens: &[u32], tree: &mut [u32], s: Reading, depth: u32) -> Readi
     ensures { λ r. ⌜ Reads (now (tokens .entry)) depth parameters (s, now (tree .entry)) (r, now (tree .exit)) ⌝ }
 {
     let t = open(tokens, s, kind::OPEN_PARENTHESIS, depth);
-    if t.answer != 0 {
+    if has_stopped(t) {
         return t;
     }
     let next = next_kind(tokens, t);
     if is_direction(next) {
-        let u = list(tokens, tree, t, depth - 1, 91);
+        let u = list(&*tokens, tree, t, depth - 1, 91);
         return take(tokens, u, kind::CLOSE_PARENTHESIS);
     }
     take(tokens, t, kind::CLOSE_PARENTHESIS)
@@ -127,9 +124,8 @@ fn parameter_dcls(tokens: &[u32], tree: &mut [u32], s: Reading, depth: u32) -> R
     requires { ⌜ Short (now tokens) ⌝ }
     ensures { λ r. ⌜ Reads (now (tokens .entry)) depth (call 90) (s, now (tree .entry)) (r, now (tree .exit)) ⌝ }
 {
-    let b = enter(s);
-    let t = parameters(tokens, tree, b, depth);
-    leave(tree, s, t, 90)
+    let t = parameters(&*tokens, tree, s, depth);
+    node(tree, s, t, 90)
 }
 
 // The names of exceptions, in parentheses.
@@ -138,10 +134,10 @@ fn exceptions(tokens: &[u32], tree: &mut [u32], s: Reading, depth: u32) -> Readi
     ensures { λ r. ⌜ Reads (now (tokens .entry)) depth exceptions (s, now (tree .entry)) (r, now (tree .exit)) ⌝ }
 {
     let t = open(tokens, s, kind::OPEN_PARENTHESIS, depth);
-    if t.answer != 0 {
+    if has_stopped(t) {
         return t;
     }
-    let u = list(tokens, tree, t, depth - 1, 12);
+    let u = list(&*tokens, tree, t, depth - 1, 12);
     take(tokens, u, kind::CLOSE_PARENTHESIS)
 }
 
@@ -152,10 +148,9 @@ fn raises(tokens: &[u32], tree: &mut [u32], s: Reading, depth: u32) -> Reading
 {
     let next = next_kind(tokens, s);
     if next == kind::RAISES {
-        let b = enter(s);
-        let t = take(tokens, b, kind::RAISES);
-        let u = exceptions(tokens, tree, t, depth);
-        return leave(tree, s, u, 93);
+        let t = take(tokens, s, kind::RAISES);
+        let u = exceptions(&*tokens, tree, t, depth);
+        return node(tree, s, u, 93);
     }
     s
 }
@@ -179,11 +174,11 @@ fn contexts(tokens: &[u32], tree: &mut [u32], s: Reading, depth: u32) -> Reading
     ensures { λ r. ⌜ Reads (now (tokens .entry)) depth contexts (s, now (tree .entry)) (r, now (tree .exit)) ⌝ }
 {
     let t = open(tokens, s, kind::OPEN_PARENTHESIS, depth);
-    if t.answer != 0 {
+    if has_stopped(t) {
         return t;
     }
     let u = take(tokens, t, kind::STRING_LITERAL);
-    let v = further_strings(tokens, u);
+    let v = further_strings(&*tokens, u);
     take(tokens, v, kind::CLOSE_PARENTHESIS)
 }
 
@@ -194,10 +189,9 @@ fn context(tokens: &[u32], tree: &mut [u32], s: Reading, depth: u32) -> Reading
 {
     let next = next_kind(tokens, s);
     if next == kind::CONTEXT {
-        let b = enter(s);
-        let t = take(tokens, b, kind::CONTEXT);
-        let u = contexts(tokens, tree, t, depth);
-        return leave(tree, s, u, 94);
+        let t = take(tokens, s, kind::CONTEXT);
+        let u = contexts(&*tokens, tree, t, depth);
+        return node(tree, s, u, 94);
     }
     s
 }
@@ -209,7 +203,7 @@ fn oneway(tokens: &[u32], tree: &mut [u32], s: Reading) -> Reading
 {
     let next = next_kind(tokens, s);
     if next == kind::ONEWAY {
-        return word(tokens, tree, s, kind::ONEWAY, 88);
+        return word(&*tokens, tree, s, kind::ONEWAY, 88);
     }
     s
 }
@@ -219,14 +213,13 @@ pub fn op_dcl(tokens: &[u32], tree: &mut [u32], s: Reading, depth: u32) -> Readi
     requires { ⌜ Short (now tokens) ⌝ }
     ensures { λ r. ⌜ Reads (now (tokens .entry)) depth (call 87) (s, now (tree .entry)) (r, now (tree .exit)) ⌝ }
 {
-    let b = enter(s);
-    let t = oneway(tokens, tree, b);
-    let u = op_type_spec(tokens, tree, t, depth);
+    let t = oneway(&*tokens, tree, s);
+    let u = op_type_spec(&*tokens, tree, t, depth);
     let v = take(tokens, u, kind::IDENTIFIER);
-    let w = parameter_dcls(tokens, tree, v, depth);
-    let x = raises(tokens, tree, w, depth);
-    let y = context(tokens, tree, x, depth);
-    leave(tree, s, y, 87)
+    let w = parameter_dcls(&*tokens, tree, v, depth);
+    let x = raises(&*tokens, tree, w, depth);
+    let y = context(&*tokens, tree, x, depth);
+    node(tree, s, y, 87)
 }
 
 // "readonly", or nothing.
@@ -246,11 +239,10 @@ pub fn attr_dcl(tokens: &[u32], tree: &mut [u32], s: Reading, depth: u32) -> Rea
     requires { ⌜ Short (now tokens) ⌝ }
     ensures { λ r. ⌜ Reads (now (tokens .entry)) depth (call 85) (s, now (tree .entry)) (r, now (tree .exit)) ⌝ }
 {
-    let b = enter(s);
-    let t = readonly(tokens, b);
+    let t = readonly(&*tokens, s);
     let u = take(tokens, t, kind::ATTRIBUTE);
-    let v = param_type_spec(tokens, tree, u, depth);
-    let w = word(tokens, tree, v, kind::IDENTIFIER, 51);
-    let x = further(tokens, tree, w, depth, 51);
-    leave(tree, s, x, 85)
+    let v = param_type_spec(&*tokens, tree, u, depth);
+    let w = word(&*tokens, tree, v, kind::IDENTIFIER, 51);
+    let x = further(&*tokens, tree, w, depth, 51);
+    node(tree, s, x, 85)
 }

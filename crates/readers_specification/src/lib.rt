@@ -6,10 +6,10 @@ ghost use Rattle.prediction.specs.Plan.{call};
 ghost use Rattle.readers_core.specs.Reading.{ahead, Short, Reads, Within};
 ghost use Rattle.readers_specification.specs.Plans.{abstract-definition, defined, definitions, definition-starts};
 use readers_core::Reading;
-use readers_core::enter;
+use readers_core::has_stopped;
 use readers_core::kind;
-use readers_core::leave;
 use readers_core::next_kind;
+use readers_core::node;
 use readers_core::open;
 use readers_core::take;
 use readers_interfaces::interface;
@@ -35,8 +35,8 @@ fn abstract_definition(
     let t = take(tokens, s, kind::ABSTRACT);
     let next = next_kind(tokens, t);
     match next {
-        kind::INTERFACE => interface(tokens, tree, start, t, depth),
-        _ => abstract_value(tokens, tree, start, t, depth),
+        kind::INTERFACE => interface(&*tokens, tree, start, t, depth),
+        _ => abstract_value(&*tokens, tree, start, t, depth),
     }
 }
 
@@ -54,20 +54,20 @@ fn other_definition(
 {
     let next = next_kind(tokens, s);
     match next {
-        kind::CONST => const_dcl(tokens, tree, s, depth),
-        kind::EXCEPTION => except_dcl(tokens, tree, s, depth),
-        kind::ABSTRACT => abstract_definition(tokens, tree, start, s, depth),
+        kind::CONST => const_dcl(&*tokens, tree, s, depth),
+        kind::EXCEPTION => except_dcl(&*tokens, tree, s, depth),
+        kind::ABSTRACT => abstract_definition(&*tokens, tree, start, s, depth),
         kind::LOCAL => {
             let t = take(tokens, s, kind::LOCAL);
-            interface(tokens, tree, start, t, depth)
+            interface(&*tokens, tree, start, t, depth)
         }
-        kind::INTERFACE => interface(tokens, tree, start, s, depth),
+        kind::INTERFACE => interface(&*tokens, tree, start, s, depth),
         kind::CUSTOM => {
             let t = take(tokens, s, kind::CUSTOM);
-            custom_value(tokens, tree, start, t, depth)
+            custom_value(&*tokens, tree, start, t, depth)
         }
-        kind::VALUETYPE => value(tokens, tree, start, s, depth),
-        _ => type_dcl(tokens, tree, s, depth),
+        kind::VALUETYPE => value(&*tokens, tree, start, s, depth),
+        _ => type_dcl(&*tokens, tree, s, depth),
     }
 }
 
@@ -89,8 +89,8 @@ fn defined(tokens: &[u32], tree: &mut [u32], start: Reading, s: Reading, depth: 
 {
     let next = next_kind(tokens, s);
     match next {
-        kind::MODULE => module_definition(tokens, tree, s, depth),
-        _ => other_definition(tokens, tree, start, s, depth),
+        kind::MODULE => module_definition(&*tokens, tree, s, depth),
+        _ => other_definition(&*tokens, tree, start, s, depth),
     }
 }
 
@@ -99,10 +99,9 @@ fn definition(tokens: &[u32], tree: &mut [u32], s: Reading, depth: u32) -> Readi
     requires { ⌜ Short (now tokens) ⌝ }
     ensures { λ r. ⌜ Reads (now (tokens .entry)) depth (call 2) (s, now (tree .entry)) (r, now (tree .exit)) ⌝ }
 {
-    let b = enter(s);
-    let t = defined(tokens, tree, s, b, depth);
+    let t = defined(&*tokens, tree, s, s, depth);
     let u = take(tokens, t, kind::SEMICOLON);
-    leave(tree, s, u, 2)
+    node(tree, s, u, 2)
 }
 
 // One or more definitions.
@@ -110,11 +109,14 @@ fn definitions(tokens: &[u32], tree: &mut [u32], s: Reading, depth: u32) -> Read
     requires { ⌜ Short (now tokens) ⌝ }
     ensures { λ r. ⌜ Reads (now (tokens .entry)) depth definitions (s, now (tree .entry)) (r, now (tree .exit)) ⌝ }
 {
-    let mut t = definition(tokens, tree, s, depth);
-    while starts_definition(next_kind(tokens, t)) {
-        t = definition(tokens, tree, t, depth);
+    let mut t = s;
+    loop {
+        t = definition(&*tokens, tree, t, depth);
+        let next = next_kind(tokens, t);
+        if !starts_definition(next) {
+            return t;
+        }
     }
-    t
 }
 
 // (3) module: its definitions are read at one level of depth less.
@@ -122,16 +124,15 @@ fn module_definition(tokens: &[u32], tree: &mut [u32], s: Reading, depth: u32) -
     requires { ⌜ Short (now tokens) ⌝ }
     ensures { λ r. ⌜ Reads (now (tokens .entry)) depth (call 3) (s, now (tree .entry)) (r, now (tree .exit)) ⌝ }
 {
-    let b = enter(s);
-    let t = take(tokens, b, kind::MODULE);
+    let t = take(tokens, s, kind::MODULE);
     let u = take(tokens, t, kind::IDENTIFIER);
     let v = open(tokens, u, kind::OPEN_BRACE, depth);
-    if v.answer != 0 {
-        return leave(tree, s, v, 3);
+    if has_stopped(v) {
+        return v;
     }
-    let w = definitions(tokens, tree, v, depth - 1);
+    let w = definitions(&*tokens, tree, v, depth - 1);
     let x = take(tokens, w, kind::CLOSE_BRACE);
-    leave(tree, s, x, 3)
+    node(tree, s, x, 3)
 }
 
 // (1) specification
@@ -139,7 +140,6 @@ pub fn specification(tokens: &[u32], tree: &mut [u32], s: Reading, depth: u32) -
     requires { ⌜ Short (now tokens) ⌝ }
     ensures { λ r. ⌜ Reads (now (tokens .entry)) depth (call 1) (s, now (tree .entry)) (r, now (tree .exit)) ⌝ }
 {
-    let b = enter(s);
-    let t = definitions(tokens, tree, b, depth);
-    leave(tree, s, t, 1)
+    let t = definitions(&*tokens, tree, s, depth);
+    node(tree, s, t, 1)
 }

@@ -7,12 +7,10 @@ ghost use Rattle.readers_core.specs.Reading.{Short, Reads, Within};
 ghost use Rattle.readers_structs.specs.Plans.{type-starts, case-starts, struct-body, switch-block, exception-body};
 ghost use Rattle.readers_structs.specs.Plans.{switch-head, union-rest, struct-dcl, union-dcl};
 use readers_core::Reading;
-use readers_core::close;
-use readers_core::enter;
-use readers_core::join;
+use readers_core::has_stopped;
 use readers_core::kind;
-use readers_core::leave;
 use readers_core::next_kind;
+use readers_core::node;
 use readers_core::open;
 use readers_core::take;
 use readers_expressions::const_exp;
@@ -68,8 +66,8 @@ pub fn type_spec(tokens: &[u32], tree: &mut [u32], s: Reading, depth: u32) -> Re
 {
     let next = next_kind(tokens, s);
     match next {
-        kind::STRUCT | kind::UNION | kind::ENUM => constr_type_spec(tokens, tree, s, depth),
-        _ => simple_type_spec(tokens, tree, s, depth),
+        kind::STRUCT | kind::UNION | kind::ENUM => constr_type_spec(&*tokens, tree, s, depth),
+        _ => simple_type_spec(&*tokens, tree, s, depth),
     }
 }
 
@@ -80,9 +78,9 @@ fn constr_type_spec(tokens: &[u32], tree: &mut [u32], s: Reading, depth: u32) ->
 {
     let next = next_kind(tokens, s);
     match next {
-        kind::STRUCT => struct_type(tokens, tree, s, depth),
-        kind::UNION => union_type(tokens, tree, s, depth),
-        _ => enum_type(tokens, tree, s, depth),
+        kind::STRUCT => struct_type(&*tokens, tree, s, depth),
+        kind::UNION => union_type(&*tokens, tree, s, depth),
+        _ => enum_type(&*tokens, tree, s, depth),
     }
 }
 
@@ -91,11 +89,10 @@ fn struct_type(tokens: &[u32], tree: &mut [u32], s: Reading, depth: u32) -> Read
     requires { ⌜ Short (now tokens) ⌝ }
     ensures { λ r. ⌜ Reads (now (tokens .entry)) depth (call 69) (s, now (tree .entry)) (r, now (tree .exit)) ⌝ }
 {
-    let b = enter(s);
-    let t = take(tokens, b, kind::STRUCT);
+    let t = take(tokens, s, kind::STRUCT);
     let u = take(tokens, t, kind::IDENTIFIER);
-    let v = struct_body(tokens, tree, u, depth);
-    leave(tree, s, v, 69)
+    let v = struct_body(&*tokens, tree, u, depth);
+    node(tree, s, v, 69)
 }
 
 // The members of a struct between their braces.
@@ -104,10 +101,10 @@ fn struct_body(tokens: &[u32], tree: &mut [u32], s: Reading, depth: u32) -> Read
     ensures { λ r. ⌜ Reads (now (tokens .entry)) depth struct-body (s, now (tree .entry)) (r, now (tree .exit)) ⌝ }
 {
     let t = open(tokens, s, kind::OPEN_BRACE, depth);
-    if t.answer != 0 {
+    if has_stopped(t) {
         return t;
     }
-    let u = member_list(tokens, tree, t, depth - 1);
+    let u = member_list(&*tokens, tree, t, depth - 1);
     take(tokens, u, kind::CLOSE_BRACE)
 }
 
@@ -116,10 +113,12 @@ fn member_list(tokens: &[u32], tree: &mut [u32], s: Reading, depth: u32) -> Read
     requires { ⌜ Short (now tokens) ⌝ }
     ensures { λ r. ⌜ Reads (now (tokens .entry)) depth (call 70) (s, now (tree .entry)) (r, now (tree .exit)) ⌝ }
 {
-    let b = enter(s);
-    let t = member(tokens, tree, b, depth);
-    let u = further_members(tokens, tree, t, depth);
-    leave(tree, s, u, 70)
+    let t = member(&*tokens, tree, s, depth);
+    if starts_type(next_kind(tokens, t)) {
+        let u = further_members(&*tokens, tree, t, depth);
+        return node(tree, s, u, 70);
+    }
+    t
 }
 
 // Members, as many as there are.
@@ -129,7 +128,7 @@ fn further_members(tokens: &[u32], tree: &mut [u32], s: Reading, depth: u32) -> 
 {
     let mut t = s;
     while starts_type(next_kind(tokens, t)) {
-        t = member(tokens, tree, t, depth);
+        t = member(&*tokens, tree, t, depth);
     }
     t
 }
@@ -139,11 +138,10 @@ fn member(tokens: &[u32], tree: &mut [u32], s: Reading, depth: u32) -> Reading
     requires { ⌜ Short (now tokens) ⌝ }
     ensures { λ r. ⌜ Reads (now (tokens .entry)) depth (call 71) (s, now (tree .entry)) (r, now (tree .exit)) ⌝ }
 {
-    let b = enter(s);
-    let t = type_spec(tokens, tree, b, depth);
-    let u = declarators(tokens, tree, t, depth);
+    let t = type_spec(&*tokens, tree, s, depth);
+    let u = declarators(&*tokens, tree, t, depth);
     let v = take(tokens, u, kind::SEMICOLON);
-    leave(tree, s, v, 71)
+    node(tree, s, v, 71)
 }
 
 // (72) union_type
@@ -151,11 +149,9 @@ fn union_type(tokens: &[u32], tree: &mut [u32], s: Reading, depth: u32) -> Readi
     requires { ⌜ Short (now tokens) ⌝ }
     ensures { λ r. ⌜ Reads (now (tokens .entry)) depth (call 72) (s, now (tree .entry)) (r, now (tree .exit)) ⌝ }
 {
-    let b = enter(s);
-    let t = take(tokens, b, kind::UNION);
+    let t = take(tokens, s, kind::UNION);
     let u = take(tokens, t, kind::IDENTIFIER);
-    let v = union_rest(tokens, tree, s, u, depth);
-    join(s, v)
+    union_rest(&*tokens, tree, s, u, depth)
 }
 
 // What stands behind the name of a union that began where `start` stands.
@@ -164,9 +160,9 @@ fn union_rest(tokens: &[u32], tree: &mut [u32], start: Reading, s: Reading, dept
     ensures { λ r. ⌜ Within (now (tokens .entry)) depth start union-rest (s, now (tree .entry)) (r, now (tree .exit)) ⌝ }
 {
     let t = take(tokens, s, kind::SWITCH);
-    let u = switch_head(tokens, tree, t, depth);
-    let v = switch_block(tokens, tree, u, depth);
-    close(tree, start, v, 72)
+    let u = switch_head(&*tokens, tree, t, depth);
+    let v = switch_block(&*tokens, tree, u, depth);
+    node(tree, start, v, 72)
 }
 
 // The type of a switch between its parentheses.
@@ -175,10 +171,10 @@ fn switch_head(tokens: &[u32], tree: &mut [u32], s: Reading, depth: u32) -> Read
     ensures { λ r. ⌜ Reads (now (tokens .entry)) depth switch-head (s, now (tree .entry)) (r, now (tree .exit)) ⌝ }
 {
     let t = open(tokens, s, kind::OPEN_PARENTHESIS, depth);
-    if t.answer != 0 {
+    if has_stopped(t) {
         return t;
     }
-    let u = switch_type_spec(tokens, tree, t, depth - 1);
+    let u = switch_type_spec(&*tokens, tree, t, depth - 1);
     take(tokens, u, kind::CLOSE_PARENTHESIS)
 }
 
@@ -188,10 +184,10 @@ fn switch_block(tokens: &[u32], tree: &mut [u32], s: Reading, depth: u32) -> Rea
     ensures { λ r. ⌜ Reads (now (tokens .entry)) depth switch-block (s, now (tree .entry)) (r, now (tree .exit)) ⌝ }
 {
     let t = open(tokens, s, kind::OPEN_BRACE, depth);
-    if t.answer != 0 {
+    if has_stopped(t) {
         return t;
     }
-    let u = switch_body(tokens, tree, t, depth - 1);
+    let u = switch_body(&*tokens, tree, t, depth - 1);
     take(tokens, u, kind::CLOSE_BRACE)
 }
 
@@ -200,10 +196,12 @@ fn switch_body(tokens: &[u32], tree: &mut [u32], s: Reading, depth: u32) -> Read
     requires { ⌜ Short (now tokens) ⌝ }
     ensures { λ r. ⌜ Reads (now (tokens .entry)) depth (call 74) (s, now (tree .entry)) (r, now (tree .exit)) ⌝ }
 {
-    let b = enter(s);
-    let t = case_clause(tokens, tree, b, depth);
-    let u = further_cases(tokens, tree, t, depth);
-    leave(tree, s, u, 74)
+    let t = case_clause(&*tokens, tree, s, depth);
+    if starts_case(next_kind(tokens, t)) {
+        let u = further_cases(&*tokens, tree, t, depth);
+        return node(tree, s, u, 74);
+    }
+    t
 }
 
 // Further cases, as many as there are.
@@ -213,7 +211,7 @@ fn further_cases(tokens: &[u32], tree: &mut [u32], s: Reading, depth: u32) -> Re
 {
     let mut t = s;
     while starts_case(next_kind(tokens, t)) {
-        t = case_clause(tokens, tree, t, depth);
+        t = case_clause(&*tokens, tree, t, depth);
     }
     t
 }
@@ -223,12 +221,11 @@ fn case_clause(tokens: &[u32], tree: &mut [u32], s: Reading, depth: u32) -> Read
     requires { ⌜ Short (now tokens) ⌝ }
     ensures { λ r. ⌜ Reads (now (tokens .entry)) depth (call 75) (s, now (tree .entry)) (r, now (tree .exit)) ⌝ }
 {
-    let b = enter(s);
-    let t = case_label(tokens, tree, b, depth);
-    let u = further_labels(tokens, tree, t, depth);
-    let v = element_spec(tokens, tree, u, depth);
+    let t = case_label(&*tokens, tree, s, depth);
+    let u = further_labels(&*tokens, tree, t, depth);
+    let v = element_spec(&*tokens, tree, u, depth);
     let w = take(tokens, v, kind::SEMICOLON);
-    leave(tree, s, w, 75)
+    node(tree, s, w, 75)
 }
 
 // Further labels of a case, as many as there are.
@@ -238,7 +235,7 @@ fn further_labels(tokens: &[u32], tree: &mut [u32], s: Reading, depth: u32) -> R
 {
     let mut t = s;
     while starts_case(next_kind(tokens, t)) {
-        t = case_label(tokens, tree, t, depth);
+        t = case_label(&*tokens, tree, t, depth);
     }
     t
 }
@@ -248,10 +245,9 @@ fn element_spec(tokens: &[u32], tree: &mut [u32], s: Reading, depth: u32) -> Rea
     requires { ⌜ Short (now tokens) ⌝ }
     ensures { λ r. ⌜ Reads (now (tokens .entry)) depth (call 77) (s, now (tree .entry)) (r, now (tree .exit)) ⌝ }
 {
-    let b = enter(s);
-    let t = type_spec(tokens, tree, b, depth);
-    let u = declarator(tokens, tree, t, depth);
-    leave(tree, s, u, 77)
+    let t = type_spec(&*tokens, tree, s, depth);
+    let u = declarator(&*tokens, tree, t, depth);
+    node(tree, s, u, 77)
 }
 
 // (43) type_declarator
@@ -259,10 +255,9 @@ fn type_declarator(tokens: &[u32], tree: &mut [u32], s: Reading, depth: u32) -> 
     requires { ⌜ Short (now tokens) ⌝ }
     ensures { λ r. ⌜ Reads (now (tokens .entry)) depth (call 43) (s, now (tree .entry)) (r, now (tree .exit)) ⌝ }
 {
-    let b = enter(s);
-    let t = type_spec(tokens, tree, b, depth);
-    let u = declarators(tokens, tree, t, depth);
-    leave(tree, s, u, 43)
+    let t = type_spec(&*tokens, tree, s, depth);
+    let u = declarators(&*tokens, tree, t, depth);
+    node(tree, s, u, 43)
 }
 
 // A struct declared, or only named, where a rule begins.
@@ -274,10 +269,10 @@ fn struct_dcl(tokens: &[u32], tree: &mut [u32], s: Reading, depth: u32) -> Readi
     let u = take(tokens, t, kind::IDENTIFIER);
     let next = next_kind(tokens, u);
     if next == kind::OPEN_BRACE {
-        let v = struct_body(tokens, tree, u, depth);
-        return close(tree, s, v, 69);
+        let v = struct_body(&*tokens, tree, u, depth);
+        return node(tree, s, v, 69);
     }
-    close(tree, s, u, 99)
+    node(tree, s, u, 99)
 }
 
 // A union declared, or only named, where a rule begins.
@@ -289,9 +284,9 @@ fn union_dcl(tokens: &[u32], tree: &mut [u32], s: Reading, depth: u32) -> Readin
     let u = take(tokens, t, kind::IDENTIFIER);
     let next = next_kind(tokens, u);
     if next == kind::SWITCH {
-        return union_rest(tokens, tree, s, u, depth);
+        return union_rest(&*tokens, tree, s, u, depth);
     }
-    close(tree, s, u, 99)
+    node(tree, s, u, 99)
 }
 
 // (42) type_dcl
@@ -300,26 +295,19 @@ pub fn type_dcl(tokens: &[u32], tree: &mut [u32], s: Reading, depth: u32) -> Rea
     ensures { λ r. ⌜ Reads (now (tokens .entry)) depth (call 42) (s, now (tree .entry)) (r, now (tree .exit)) ⌝ }
 {
     let next = next_kind(tokens, s);
-    let b = enter(s);
     match next {
         kind::TYPEDEF => {
-            let t = take(tokens, b, kind::TYPEDEF);
-            let u = type_declarator(tokens, tree, t, depth);
-            leave(tree, s, u, 42)
+            let t = take(tokens, s, kind::TYPEDEF);
+            let u = type_declarator(&*tokens, tree, t, depth);
+            node(tree, s, u, 42)
         }
-        kind::STRUCT => {
-            let t = struct_dcl(tokens, tree, b, depth);
-            leave(tree, s, t, 42)
-        }
-        kind::UNION => {
-            let t = union_dcl(tokens, tree, b, depth);
-            leave(tree, s, t, 42)
-        }
-        kind::ENUM => enum_type(tokens, tree, s, depth),
+        kind::STRUCT => struct_dcl(&*tokens, tree, s, depth),
+        kind::UNION => union_dcl(&*tokens, tree, s, depth),
+        kind::ENUM => enum_type(&*tokens, tree, s, depth),
         _ => {
-            let t = take(tokens, b, kind::NATIVE);
-            let u = word(tokens, tree, t, kind::IDENTIFIER, 51);
-            leave(tree, s, u, 42)
+            let t = take(tokens, s, kind::NATIVE);
+            let u = word(&*tokens, tree, t, kind::IDENTIFIER, 51);
+            node(tree, s, u, 42)
         }
     }
 }
@@ -330,10 +318,10 @@ fn exception_body(tokens: &[u32], tree: &mut [u32], s: Reading, depth: u32) -> R
     ensures { λ r. ⌜ Reads (now (tokens .entry)) depth exception-body (s, now (tree .entry)) (r, now (tree .exit)) ⌝ }
 {
     let t = open(tokens, s, kind::OPEN_BRACE, depth);
-    if t.answer != 0 {
+    if has_stopped(t) {
         return t;
     }
-    let u = further_members(tokens, tree, t, depth - 1);
+    let u = further_members(&*tokens, tree, t, depth - 1);
     take(tokens, u, kind::CLOSE_BRACE)
 }
 
@@ -342,11 +330,10 @@ pub fn except_dcl(tokens: &[u32], tree: &mut [u32], s: Reading, depth: u32) -> R
     requires { ⌜ Short (now tokens) ⌝ }
     ensures { λ r. ⌜ Reads (now (tokens .entry)) depth (call 86) (s, now (tree .entry)) (r, now (tree .exit)) ⌝ }
 {
-    let b = enter(s);
-    let t = take(tokens, b, kind::EXCEPTION);
+    let t = take(tokens, s, kind::EXCEPTION);
     let u = take(tokens, t, kind::IDENTIFIER);
-    let v = exception_body(tokens, tree, u, depth);
-    leave(tree, s, v, 86)
+    let v = exception_body(&*tokens, tree, u, depth);
+    node(tree, s, v, 86)
 }
 
 // (27) const_dcl
@@ -354,11 +341,10 @@ pub fn const_dcl(tokens: &[u32], tree: &mut [u32], s: Reading, depth: u32) -> Re
     requires { ⌜ Short (now tokens) ⌝ }
     ensures { λ r. ⌜ Reads (now (tokens .entry)) depth (call 27) (s, now (tree .entry)) (r, now (tree .exit)) ⌝ }
 {
-    let b = enter(s);
-    let t = take(tokens, b, kind::CONST);
-    let u = const_type(tokens, tree, t, depth);
+    let t = take(tokens, s, kind::CONST);
+    let u = const_type(&*tokens, tree, t, depth);
     let v = take(tokens, u, kind::IDENTIFIER);
     let w = take(tokens, v, kind::EQUALS);
-    let x = const_exp(tokens, tree, w, depth);
-    leave(tree, s, x, 27)
+    let x = const_exp(&*tokens, tree, w, depth);
+    node(tree, s, x, 27)
 }

@@ -4,15 +4,14 @@ ghost use Prim.Native.Nat.{_<_};
 ghost use mathlib.Core.Path.{_≡_};
 ghost use Rattle.prediction.specs.Plan.{call, group, many, seq, token, wrap};
 ghost use Rattle.grammar.specs.Sets.{elem};
-ghost use Rattle.readers_core.specs.Reading.{Short, Flat, Follows, Reads, Within};
+ghost use Rattle.readers_core.specs.Reading.{Short, Flat, Follows, From, Reads, several};
 ghost use Rattle.readers_types.specs.Plans.{bound, string-plan, fixed-bounds, behind-name, further, enumerators};
 ghost use Rattle.readers_types.specs.Plans.{sequence-body, sequence-bound};
 use readers_core::Reading;
-use readers_core::close;
-use readers_core::enter;
+use readers_core::has_stopped;
 use readers_core::kind;
-use readers_core::leave;
 use readers_core::next_kind;
+use readers_core::node;
 use readers_core::open;
 use readers_core::take;
 use readers_expressions::const_exp;
@@ -29,10 +28,10 @@ fn bound(tokens: &[u32], tree: &mut [u32], s: Reading, depth: u32) -> Reading
     ensures { λ r. ⌜ Reads (now (tokens .entry)) depth bound (s, now (tree .entry)) (r, now (tree .exit)) ⌝ }
 {
     let t = open(tokens, s, kind::OPEN_ANGLE, depth);
-    if t.answer != 0 {
+    if has_stopped(t) {
         return t;
     }
-    let u = positive_int_const(tokens, tree, t, depth - 1);
+    let u = positive_int_const(&*tokens, tree, t, depth - 1);
     take(tokens, u, kind::CLOSE_ANGLE)
 }
 
@@ -48,14 +47,13 @@ pub fn string_type(
     requires { ⌜ Short (now tokens) × (0 < word) ⌝ }
     ensures { λ r. ⌜ Follows (now (tokens .entry)) depth rule (string-plan word rule) (s, now (tree .entry)) (r, now (tree .exit)) ⌝ }
 {
-    let b = enter(s);
-    let t = take(tokens, b, word);
+    let t = take(tokens, s, word);
     let next = next_kind(tokens, t);
     if next == kind::OPEN_ANGLE {
-        let u = bound(tokens, tree, t, depth);
-        return leave(tree, s, u, rule);
+        let u = bound(&*tokens, tree, t, depth);
+        return node(tree, s, u, rule);
     }
-    leave(tree, s, t, rule)
+    node(tree, s, t, rule)
 }
 
 // The two bounds of a fixed-point type.
@@ -64,12 +62,12 @@ fn fixed_bounds(tokens: &[u32], tree: &mut [u32], s: Reading, depth: u32) -> Rea
     ensures { λ r. ⌜ Reads (now (tokens .entry)) depth fixed-bounds (s, now (tree .entry)) (r, now (tree .exit)) ⌝ }
 {
     let t = open(tokens, s, kind::OPEN_ANGLE, depth);
-    if t.answer != 0 {
+    if has_stopped(t) {
         return t;
     }
-    let u = positive_int_const(tokens, tree, t, depth - 1);
+    let u = positive_int_const(&*tokens, tree, t, depth - 1);
     let v = take(tokens, u, kind::COMMA);
-    let w = positive_int_const(tokens, tree, v, depth - 1);
+    let w = positive_int_const(&*tokens, tree, v, depth - 1);
     take(tokens, w, kind::CLOSE_ANGLE)
 }
 
@@ -78,10 +76,9 @@ fn fixed_pt_type(tokens: &[u32], tree: &mut [u32], s: Reading, depth: u32) -> Re
     requires { ⌜ Short (now tokens) ⌝ }
     ensures { λ r. ⌜ Reads (now (tokens .entry)) depth (call 96) (s, now (tree .entry)) (r, now (tree .exit)) ⌝ }
 {
-    let b = enter(s);
-    let t = take(tokens, b, kind::FIXED);
-    let u = fixed_bounds(tokens, tree, t, depth);
-    leave(tree, s, u, 96)
+    let t = take(tokens, s, kind::FIXED);
+    let u = fixed_bounds(&*tokens, tree, t, depth);
+    node(tree, s, u, 96)
 }
 
 // What a fixed_array_size has between its brackets.
@@ -90,10 +87,10 @@ fn size(tokens: &[u32], tree: &mut [u32], s: Reading, depth: u32) -> Reading
     ensures { λ r. ⌜ Reads (now (tokens .entry)) depth (group 75 (call 41) 76) (s, now (tree .entry)) (r, now (tree .exit)) ⌝ }
 {
     let t = open(tokens, s, kind::OPEN_BRACKET, depth);
-    if t.answer != 0 {
+    if has_stopped(t) {
         return t;
     }
-    let u = positive_int_const(tokens, tree, t, depth - 1);
+    let u = positive_int_const(&*tokens, tree, t, depth - 1);
     take(tokens, u, kind::CLOSE_BRACKET)
 }
 
@@ -102,9 +99,8 @@ fn fixed_array_size(tokens: &[u32], tree: &mut [u32], s: Reading, depth: u32) ->
     requires { ⌜ Short (now tokens) ⌝ }
     ensures { λ r. ⌜ Reads (now (tokens .entry)) depth (call 84) (s, now (tree .entry)) (r, now (tree .exit)) ⌝ }
 {
-    let b = enter(s);
-    let t = size(tokens, tree, b, depth);
-    leave(tree, s, t, 84)
+    let t = size(&*tokens, tree, s, depth);
+    node(tree, s, t, 84)
 }
 
 // Further sizes of an array.
@@ -114,7 +110,7 @@ fn further_sizes(tokens: &[u32], tree: &mut [u32], s: Reading, depth: u32) -> Re
 {
     let mut t = s;
     while next_kind(tokens, t) == kind::OPEN_BRACKET {
-        t = fixed_array_size(tokens, tree, t, depth);
+        t = fixed_array_size(&*tokens, tree, t, depth);
     }
     t
 }
@@ -122,16 +118,15 @@ fn further_sizes(tokens: &[u32], tree: &mut [u32], s: Reading, depth: u32) -> Re
 // Behind the name of a declarator: array sizes or nothing.
 fn behind_name(tokens: &[u32], tree: &mut [u32], start: Reading, s: Reading, depth: u32) -> Reading
     requires { ⌜ Short (now tokens) ⌝ }
-    ensures { λ r. ⌜ Within (now (tokens .entry)) depth start behind-name (s, now (tree .entry)) (r, now (tree .exit)) ⌝ }
+    ensures { λ r. ⌜ From (now (tokens .entry)) depth start several behind-name (s, now (tree .entry)) (r, now (tree .exit)) ⌝ }
 {
     let next = next_kind(tokens, s);
     if next == kind::OPEN_BRACKET {
-        let t = fixed_array_size(tokens, tree, s, depth);
-        let u = further_sizes(tokens, tree, t, depth);
-        let v = close(tree, start, u, 83);
-        return close(tree, start, v, 52);
+        let t = fixed_array_size(&*tokens, tree, s, depth);
+        let u = further_sizes(&*tokens, tree, t, depth);
+        return node(tree, start, u, 83);
     }
-    close(tree, start, s, 51)
+    node(tree, start, s, 51)
 }
 
 // (50) declarator
@@ -139,10 +134,8 @@ pub fn declarator(tokens: &[u32], tree: &mut [u32], s: Reading, depth: u32) -> R
     requires { ⌜ Short (now tokens) ⌝ }
     ensures { λ r. ⌜ Reads (now (tokens .entry)) depth (call 50) (s, now (tree .entry)) (r, now (tree .exit)) ⌝ }
 {
-    let b = enter(s);
-    let t = take(tokens, b, kind::IDENTIFIER);
-    let u = behind_name(tokens, tree, s, t, depth);
-    leave(tree, s, u, 50)
+    let t = take(tokens, s, kind::IDENTIFIER);
+    behind_name(&*tokens, tree, s, t, depth)
 }
 
 // Further declarators, each behind a comma.
@@ -153,7 +146,7 @@ fn further_declarators(tokens: &[u32], tree: &mut [u32], s: Reading, depth: u32)
     let mut t = s;
     while next_kind(tokens, t) == kind::COMMA {
         let mark = take(tokens, t, kind::COMMA);
-        t = declarator(tokens, tree, mark, depth);
+        t = declarator(&*tokens, tree, mark, depth);
     }
     t
 }
@@ -163,10 +156,13 @@ pub fn declarators(tokens: &[u32], tree: &mut [u32], s: Reading, depth: u32) -> 
     requires { ⌜ Short (now tokens) ⌝ }
     ensures { λ r. ⌜ Reads (now (tokens .entry)) depth (call 49) (s, now (tree .entry)) (r, now (tree .exit)) ⌝ }
 {
-    let b = enter(s);
-    let t = declarator(tokens, tree, b, depth);
-    let u = further_declarators(tokens, tree, t, depth);
-    leave(tree, s, u, 49)
+    let t = declarator(&*tokens, tree, s, depth);
+    let next = next_kind(tokens, t);
+    if next == kind::COMMA {
+        let u = further_declarators(&*tokens, tree, t, depth);
+        return node(tree, s, u, 49);
+    }
+    t
 }
 
 // Further enumerators, (79), each behind a comma.
@@ -177,7 +173,7 @@ fn further_enumerators(tokens: &[u32], tree: &mut [u32], s: Reading) -> Reading
     let mut t = s;
     while next_kind(tokens, t) == kind::COMMA {
         let mark = take(tokens, t, kind::COMMA);
-        t = word(tokens, tree, mark, kind::IDENTIFIER, 79);
+        t = word(&*tokens, tree, mark, kind::IDENTIFIER, 79);
     }
     t
 }
@@ -188,11 +184,11 @@ fn enumerators(tokens: &[u32], tree: &mut [u32], s: Reading, depth: u32) -> Read
     ensures { λ r. ⌜ Reads (now (tokens .entry)) depth enumerators (s, now (tree .entry)) (r, now (tree .exit)) ⌝ }
 {
     let t = open(tokens, s, kind::OPEN_BRACE, depth);
-    if t.answer != 0 {
+    if has_stopped(t) {
         return t;
     }
-    let u = word(tokens, tree, t, kind::IDENTIFIER, 79);
-    let v = further_enumerators(tokens, tree, u);
+    let u = word(&*tokens, tree, t, kind::IDENTIFIER, 79);
+    let v = further_enumerators(&*tokens, tree, u);
     take(tokens, v, kind::CLOSE_BRACE)
 }
 
@@ -201,11 +197,10 @@ pub fn enum_type(tokens: &[u32], tree: &mut [u32], s: Reading, depth: u32) -> Re
     requires { ⌜ Short (now tokens) ⌝ }
     ensures { λ r. ⌜ Reads (now (tokens .entry)) depth (call 78) (s, now (tree .entry)) (r, now (tree .exit)) ⌝ }
 {
-    let b = enter(s);
-    let t = take(tokens, b, kind::ENUM);
+    let t = take(tokens, s, kind::ENUM);
     let u = take(tokens, t, kind::IDENTIFIER);
-    let v = enumerators(tokens, tree, u, depth);
-    leave(tree, s, v, 78)
+    let v = enumerators(&*tokens, tree, u, depth);
+    node(tree, s, v, 78)
 }
 
 // (95) param_type_spec
@@ -215,10 +210,10 @@ pub fn param_type_spec(tokens: &[u32], tree: &mut [u32], s: Reading, depth: u32)
 {
     let next = next_kind(tokens, s);
     match next {
-        kind::STRING => string_type(tokens, tree, s, depth, kind::STRING, 81),
-        kind::WSTRING => string_type(tokens, tree, s, depth, kind::WSTRING, 82),
-        kind::IDENTIFIER | kind::SCOPE => scoped_name(tokens, tree, s),
-        _ => base_type_spec(tokens, tree, s),
+        kind::STRING => string_type(&*tokens, tree, s, depth, kind::STRING, 81),
+        kind::WSTRING => string_type(&*tokens, tree, s, depth, kind::WSTRING, 82),
+        kind::IDENTIFIER | kind::SCOPE => scoped_name(&*tokens, tree, s),
+        _ => base_type_spec(&*tokens, tree, s),
     }
 }
 
@@ -229,19 +224,19 @@ pub fn const_type(tokens: &[u32], tree: &mut [u32], s: Reading, depth: u32) -> R
 {
     let next = next_kind(tokens, s);
     match next {
-        kind::LONG | kind::FLOAT | kind::DOUBLE | kind::SHORT | kind::UNSIGNED => {
-            let b = enter(s);
-            let t = number_type(tokens, tree, b);
-            leave(tree, s, t, 28)
-        }
-        kind::CHAR => word(tokens, tree, s, kind::CHAR, 63),
-        kind::WCHAR => word(tokens, tree, s, kind::WCHAR, 64),
-        kind::BOOLEAN => word(tokens, tree, s, kind::BOOLEAN, 65),
-        kind::STRING => string_type(tokens, tree, s, depth, kind::STRING, 81),
-        kind::WSTRING => string_type(tokens, tree, s, depth, kind::WSTRING, 82),
-        kind::FIXED => word(tokens, tree, s, kind::FIXED, 97),
-        kind::OCTET => word(tokens, tree, s, kind::OCTET, 66),
-        _ => scoped_name(tokens, tree, s),
+        kind::LONG | kind::FLOAT | kind::DOUBLE | kind::SHORT | kind::UNSIGNED => number_type(
+            &*tokens,
+            tree,
+            s,
+        ),
+        kind::CHAR => word(&*tokens, tree, s, kind::CHAR, 63),
+        kind::WCHAR => word(&*tokens, tree, s, kind::WCHAR, 64),
+        kind::BOOLEAN => word(&*tokens, tree, s, kind::BOOLEAN, 65),
+        kind::STRING => string_type(&*tokens, tree, s, depth, kind::STRING, 81),
+        kind::WSTRING => string_type(&*tokens, tree, s, depth, kind::WSTRING, 82),
+        kind::FIXED => word(&*tokens, tree, s, kind::FIXED, 97),
+        kind::OCTET => word(&*tokens, tree, s, kind::OCTET, 66),
+        _ => scoped_name(&*tokens, tree, s),
     }
 }
 
@@ -252,11 +247,11 @@ pub fn switch_type_spec(tokens: &[u32], tree: &mut [u32], s: Reading, depth: u32
 {
     let next = next_kind(tokens, s);
     match next {
-        kind::LONG | kind::SHORT | kind::UNSIGNED => integer_type(tokens, tree, s),
-        kind::CHAR => word(tokens, tree, s, kind::CHAR, 63),
-        kind::BOOLEAN => word(tokens, tree, s, kind::BOOLEAN, 65),
-        kind::ENUM => enum_type(tokens, tree, s, depth),
-        _ => scoped_name(tokens, tree, s),
+        kind::LONG | kind::SHORT | kind::UNSIGNED => integer_type(&*tokens, tree, s),
+        kind::CHAR => word(&*tokens, tree, s, kind::CHAR, 63),
+        kind::BOOLEAN => word(&*tokens, tree, s, kind::BOOLEAN, 65),
+        kind::ENUM => enum_type(&*tokens, tree, s, depth),
+        _ => scoped_name(&*tokens, tree, s),
     }
 }
 
@@ -265,17 +260,16 @@ pub fn case_label(tokens: &[u32], tree: &mut [u32], s: Reading, depth: u32) -> R
     requires { ⌜ Short (now tokens) ⌝ }
     ensures { λ r. ⌜ Reads (now (tokens .entry)) depth (call 76) (s, now (tree .entry)) (r, now (tree .exit)) ⌝ }
 {
-    let b = enter(s);
-    let next = next_kind(tokens, b);
+    let next = next_kind(tokens, s);
     if next == kind::CASE {
-        let t = take(tokens, b, kind::CASE);
-        let u = const_exp(tokens, tree, t, depth);
+        let t = take(tokens, s, kind::CASE);
+        let u = const_exp(&*tokens, tree, t, depth);
         let v = take(tokens, u, kind::COLON);
-        return leave(tree, s, v, 76);
+        return node(tree, s, v, 76);
     }
-    let t = take(tokens, b, kind::DEFAULT);
+    let t = take(tokens, s, kind::DEFAULT);
     let u = take(tokens, t, kind::COLON);
-    leave(tree, s, u, 76)
+    node(tree, s, u, 76)
 }
 
 // The bound of a sequence, behind a comma, or none.
@@ -286,7 +280,7 @@ fn sequence_bound(tokens: &[u32], tree: &mut [u32], s: Reading, depth: u32) -> R
     let next = next_kind(tokens, s);
     if next == kind::COMMA {
         let t = take(tokens, s, kind::COMMA);
-        return positive_int_const(tokens, tree, t, depth);
+        return positive_int_const(&*tokens, tree, t, depth);
     }
     s
 }
@@ -297,11 +291,11 @@ fn sequence_body(tokens: &[u32], tree: &mut [u32], s: Reading, depth: u32) -> Re
     ensures { λ r. ⌜ Reads (now (tokens .entry)) depth sequence-body (s, now (tree .entry)) (r, now (tree .exit)) ⌝ }
 {
     let t = open(tokens, s, kind::OPEN_ANGLE, depth);
-    if t.answer != 0 {
+    if has_stopped(t) {
         return t;
     }
-    let u = simple_type_spec(tokens, tree, t, depth - 1);
-    let v = sequence_bound(tokens, tree, u, depth - 1);
+    let u = simple_type_spec(&*tokens, tree, t, depth - 1);
+    let v = sequence_bound(&*tokens, tree, u, depth - 1);
     take(tokens, v, kind::CLOSE_ANGLE)
 }
 
@@ -310,10 +304,9 @@ fn sequence_type(tokens: &[u32], tree: &mut [u32], s: Reading, depth: u32) -> Re
     requires { ⌜ Short (now tokens) ⌝ }
     ensures { λ r. ⌜ Reads (now (tokens .entry)) depth (call 80) (s, now (tree .entry)) (r, now (tree .exit)) ⌝ }
 {
-    let b = enter(s);
-    let t = take(tokens, b, kind::SEQUENCE);
-    let u = sequence_body(tokens, tree, t, depth);
-    leave(tree, s, u, 80)
+    let t = take(tokens, s, kind::SEQUENCE);
+    let u = sequence_body(&*tokens, tree, t, depth);
+    node(tree, s, u, 80)
 }
 
 // (47) template_type_spec
@@ -323,10 +316,10 @@ fn template_type_spec(tokens: &[u32], tree: &mut [u32], s: Reading, depth: u32) 
 {
     let next = next_kind(tokens, s);
     match next {
-        kind::SEQUENCE => sequence_type(tokens, tree, s, depth),
-        kind::STRING => string_type(tokens, tree, s, depth, kind::STRING, 81),
-        kind::WSTRING => string_type(tokens, tree, s, depth, kind::WSTRING, 82),
-        _ => fixed_pt_type(tokens, tree, s, depth),
+        kind::SEQUENCE => sequence_type(&*tokens, tree, s, depth),
+        kind::STRING => string_type(&*tokens, tree, s, depth, kind::STRING, 81),
+        kind::WSTRING => string_type(&*tokens, tree, s, depth, kind::WSTRING, 82),
+        _ => fixed_pt_type(&*tokens, tree, s, depth),
     }
 }
 
@@ -338,12 +331,12 @@ pub fn simple_type_spec(tokens: &[u32], tree: &mut [u32], s: Reading, depth: u32
     let next = next_kind(tokens, s);
     match next {
         kind::SEQUENCE | kind::STRING | kind::WSTRING | kind::FIXED => template_type_spec(
-            tokens,
+            &*tokens,
             tree,
             s,
             depth,
         ),
-        kind::IDENTIFIER | kind::SCOPE => scoped_name(tokens, tree, s),
-        _ => base_type_spec(tokens, tree, s),
+        kind::IDENTIFIER | kind::SCOPE => scoped_name(&*tokens, tree, s),
+        _ => base_type_spec(&*tokens, tree, s),
     }
 }

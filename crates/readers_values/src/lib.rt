@@ -3,18 +3,17 @@
 ghost use mathlib.Core.Path.{_≡_};
 ghost use Rattle.grammar.specs.Sets.{elem};
 ghost use Rattle.prediction.specs.Plan.{call, many};
-ghost use Rattle.readers_core.specs.Reading.{Short, Takes, Flat, Reads, Within};
-ghost use Rattle.readers_interfaces.specs.Plans.{listed};
+ghost use Rattle.readers_core.specs.Reading.{Short, Takes, Flat, From, Reads, Within, several};
+ghost use Rattle.readers_interfaces.specs.Plans.{further};
 ghost use Rattle.readers_values.specs.Plans.{supports, optional-supports, optional-truncatable, inherits, optional-bases};
 ghost use Rattle.readers_values.specs.Plans.{visibility, optional-parameters, initializer-parameters, element-starts};
 ghost use Rattle.readers_values.specs.Plans.{braced-elements, braced-exports, value-body, abstract-body};
 ghost use Rattle.readers_values.specs.Plans.{behind-name, value-rest, custom-rest, abstract-rest};
 use readers_core::Reading;
-use readers_core::close;
-use readers_core::enter;
+use readers_core::has_stopped;
 use readers_core::kind;
-use readers_core::leave;
 use readers_core::next_kind;
+use readers_core::node;
 use readers_core::open;
 use readers_core::take;
 use readers_interfaces::export;
@@ -33,7 +32,7 @@ fn supports(tokens: &[u32], tree: &mut [u32], s: Reading) -> Reading
     ensures { λ r. ⌜ Flat (now (tokens .entry)) supports (s, now (tree .entry)) (r, now (tree .exit)) ⌝ }
 {
     let t = take(tokens, s, kind::SUPPORTS);
-    scoped_names(tokens, tree, t)
+    scoped_names(&*tokens, tree, t)
 }
 
 // The interfaces that a value supports, if any.
@@ -43,7 +42,7 @@ fn supported(tokens: &[u32], tree: &mut [u32], s: Reading) -> Reading
 {
     let next = next_kind(tokens, s);
     match next {
-        kind::SUPPORTS => supports(tokens, tree, s),
+        kind::SUPPORTS => supports(&*tokens, tree, s),
         _ => s,
     }
 }
@@ -66,9 +65,9 @@ fn inherits(tokens: &[u32], tree: &mut [u32], s: Reading) -> Reading
     ensures { λ r. ⌜ Flat (now (tokens .entry)) inherits (s, now (tree .entry)) (r, now (tree .exit)) ⌝ }
 {
     let t = take(tokens, s, kind::COLON);
-    let u = truncatable(tokens, t);
-    let v = scoped_names(tokens, tree, u);
-    supported(tokens, tree, v)
+    let u = truncatable(&*tokens, t);
+    let v = scoped_names(&*tokens, tree, u);
+    supported(&*tokens, tree, v)
 }
 
 // (19) value_inheritance_spec
@@ -76,16 +75,15 @@ fn value_inheritance_spec(tokens: &[u32], tree: &mut [u32], s: Reading) -> Readi
     requires { ⌜ Short (now tokens) ⌝ }
     ensures { λ r. ⌜ Flat (now (tokens .entry)) (call 19) (s, now (tree .entry)) (r, now (tree .exit)) ⌝ }
 {
-    let b = enter(s);
-    let next = next_kind(tokens, b);
+    let next = next_kind(tokens, s);
     match next {
         kind::COLON => {
-            let t = inherits(tokens, tree, b);
-            leave(tree, s, t, 19)
+            let t = inherits(&*tokens, tree, s);
+            node(tree, s, t, 19)
         }
         _ => {
-            let t = supports(tokens, tree, b);
-            leave(tree, s, t, 19)
+            let t = supports(&*tokens, tree, s);
+            node(tree, s, t, 19)
         }
     }
 }
@@ -97,7 +95,7 @@ fn bases(tokens: &[u32], tree: &mut [u32], s: Reading) -> Reading
 {
     let next = next_kind(tokens, s);
     match next {
-        kind::COLON | kind::SUPPORTS => value_inheritance_spec(tokens, tree, s),
+        kind::COLON | kind::SUPPORTS => value_inheritance_spec(&*tokens, tree, s),
         _ => s,
     }
 }
@@ -119,12 +117,11 @@ fn state_member(tokens: &[u32], tree: &mut [u32], s: Reading, depth: u32) -> Rea
     requires { ⌜ Short (now tokens) ⌝ }
     ensures { λ r. ⌜ Reads (now (tokens .entry)) depth (call 22) (s, now (tree .entry)) (r, now (tree .exit)) ⌝ }
 {
-    let b = enter(s);
-    let t = visibility(tokens, b);
-    let u = type_spec(tokens, tree, t, depth);
-    let v = declarators(tokens, tree, u, depth);
+    let t = visibility(&*tokens, s);
+    let u = type_spec(&*tokens, tree, t, depth);
+    let v = declarators(&*tokens, tree, u, depth);
     let w = take(tokens, v, kind::SEMICOLON);
-    leave(tree, s, w, 22)
+    node(tree, s, w, 22)
 }
 
 // (25) init_param_decl; (26) init_param_attribute and (51) simple_declarator are one token each.
@@ -132,22 +129,21 @@ fn init_param_decl(tokens: &[u32], tree: &mut [u32], s: Reading, depth: u32) -> 
     requires { ⌜ Short (now tokens) ⌝ }
     ensures { λ r. ⌜ Reads (now (tokens .entry)) depth (call 25) (s, now (tree .entry)) (r, now (tree .exit)) ⌝ }
 {
-    let b = enter(s);
-    let t = word(tokens, tree, b, kind::IN, 26);
-    let u = param_type_spec(tokens, tree, t, depth);
-    let v = word(tokens, tree, u, kind::IDENTIFIER, 51);
-    leave(tree, s, v, 25)
+    let t = word(&*tokens, tree, s, kind::IN, 26);
+    let u = param_type_spec(&*tokens, tree, t, depth);
+    let v = word(&*tokens, tree, u, kind::IDENTIFIER, 51);
+    node(tree, s, v, 25)
 }
 
-// One or more parameters, with commas between them.
-fn listed_parameters(tokens: &[u32], tree: &mut [u32], s: Reading, depth: u32) -> Reading
+// Further parameters, each behind a comma.
+fn further_parameters(tokens: &[u32], tree: &mut [u32], s: Reading, depth: u32) -> Reading
     requires { ⌜ Short (now tokens) ⌝ }
-    ensures { λ r. ⌜ Reads (now (tokens .entry)) depth (listed 25) (s, now (tree .entry)) (r, now (tree .exit)) ⌝ }
+    ensures { λ r. ⌜ Reads (now (tokens .entry)) depth (many (further 25)) (s, now (tree .entry)) (r, now (tree .exit)) ⌝ }
 {
-    let mut t = init_param_decl(tokens, tree, s, depth);
+    let mut t = s;
     while next_kind(tokens, t) == kind::COMMA {
         let mark = take(tokens, t, kind::COMMA);
-        t = init_param_decl(tokens, tree, mark, depth);
+        t = init_param_decl(&*tokens, tree, mark, depth);
     }
     t
 }
@@ -157,9 +153,13 @@ fn init_param_decls(tokens: &[u32], tree: &mut [u32], s: Reading, depth: u32) ->
     requires { ⌜ Short (now tokens) ⌝ }
     ensures { λ r. ⌜ Reads (now (tokens .entry)) depth (call 24) (s, now (tree .entry)) (r, now (tree .exit)) ⌝ }
 {
-    let b = enter(s);
-    let t = listed_parameters(tokens, tree, b, depth);
-    leave(tree, s, t, 24)
+    let t = init_param_decl(&*tokens, tree, s, depth);
+    let next = next_kind(tokens, t);
+    if next == kind::COMMA {
+        let u = further_parameters(&*tokens, tree, t, depth);
+        return node(tree, s, u, 24);
+    }
+    t
 }
 
 // Parameters, if any.
@@ -169,7 +169,7 @@ fn parameters(tokens: &[u32], tree: &mut [u32], s: Reading, depth: u32) -> Readi
 {
     let next = next_kind(tokens, s);
     match next {
-        kind::IN => init_param_decls(tokens, tree, s, depth),
+        kind::IN => init_param_decls(&*tokens, tree, s, depth),
         _ => s,
     }
 }
@@ -180,10 +180,10 @@ fn initializer_parameters(tokens: &[u32], tree: &mut [u32], s: Reading, depth: u
     ensures { λ r. ⌜ Reads (now (tokens .entry)) depth initializer-parameters (s, now (tree .entry)) (r, now (tree .exit)) ⌝ }
 {
     let t = open(tokens, s, kind::OPEN_PARENTHESIS, depth);
-    if t.answer != 0 {
+    if has_stopped(t) {
         return t;
     }
-    let u = parameters(tokens, tree, t, depth - 1);
+    let u = parameters(&*tokens, tree, t, depth - 1);
     take(tokens, u, kind::CLOSE_PARENTHESIS)
 }
 
@@ -192,12 +192,11 @@ fn init_dcl(tokens: &[u32], tree: &mut [u32], s: Reading, depth: u32) -> Reading
     requires { ⌜ Short (now tokens) ⌝ }
     ensures { λ r. ⌜ Reads (now (tokens .entry)) depth (call 23) (s, now (tree .entry)) (r, now (tree .exit)) ⌝ }
 {
-    let b = enter(s);
-    let t = take(tokens, b, kind::FACTORY);
+    let t = take(tokens, s, kind::FACTORY);
     let u = take(tokens, t, kind::IDENTIFIER);
-    let v = initializer_parameters(tokens, tree, u, depth);
+    let v = initializer_parameters(&*tokens, tree, u, depth);
     let w = take(tokens, v, kind::SEMICOLON);
-    leave(tree, s, w, 23)
+    node(tree, s, w, 23)
 }
 
 // (21) value_element
@@ -207,10 +206,10 @@ fn value_element(tokens: &[u32], tree: &mut [u32], s: Reading, depth: u32) -> Re
 {
     let next = next_kind(tokens, s);
     match next {
-        kind::PUBLIC => state_member(tokens, tree, s, depth),
-        kind::PRIVATE => state_member(tokens, tree, s, depth),
-        kind::FACTORY => init_dcl(tokens, tree, s, depth),
-        _ => export(tokens, tree, s, depth),
+        kind::PUBLIC => state_member(&*tokens, tree, s, depth),
+        kind::PRIVATE => state_member(&*tokens, tree, s, depth),
+        kind::FACTORY => init_dcl(&*tokens, tree, s, depth),
+        _ => export(&*tokens, tree, s, depth),
     }
 }
 
@@ -232,7 +231,7 @@ fn elements(tokens: &[u32], tree: &mut [u32], s: Reading, depth: u32) -> Reading
 {
     let mut t = s;
     while starts_element(next_kind(tokens, t)) {
-        t = value_element(tokens, tree, t, depth);
+        t = value_element(&*tokens, tree, t, depth);
     }
     t
 }
@@ -243,10 +242,10 @@ fn braced_elements(tokens: &[u32], tree: &mut [u32], s: Reading, depth: u32) -> 
     ensures { λ r. ⌜ Reads (now (tokens .entry)) depth braced-elements (s, now (tree .entry)) (r, now (tree .exit)) ⌝ }
 {
     let t = open(tokens, s, kind::OPEN_BRACE, depth);
-    if t.answer != 0 {
+    if has_stopped(t) {
         return t;
     }
-    let u = elements(tokens, tree, t, depth - 1);
+    let u = elements(&*tokens, tree, t, depth - 1);
     take(tokens, u, kind::CLOSE_BRACE)
 }
 
@@ -256,37 +255,43 @@ fn braced_exports(tokens: &[u32], tree: &mut [u32], s: Reading, depth: u32) -> R
     ensures { λ r. ⌜ Reads (now (tokens .entry)) depth braced-exports (s, now (tree .entry)) (r, now (tree .exit)) ⌝ }
 {
     let t = open(tokens, s, kind::OPEN_BRACE, depth);
-    if t.answer != 0 {
+    if has_stopped(t) {
         return t;
     }
-    let u = exports(tokens, tree, t, depth - 1);
+    let u = exports(&*tokens, tree, t, depth - 1);
     take(tokens, u, kind::CLOSE_BRACE)
 }
 
 // Behind the name: the end of (18) value_header and the body of (17) value_dcl.
 fn value_dcl(tokens: &[u32], tree: &mut [u32], start: Reading, s: Reading, depth: u32) -> Reading
     requires { ⌜ Short (now tokens) ⌝ }
-    ensures { λ r. ⌜ Within (now (tokens .entry)) depth start value-body (s, now (tree .entry)) (r, now (tree .exit)) ⌝ }
+    ensures { λ r. ⌜ From (now (tokens .entry)) depth start several value-body (s, now (tree .entry)) (r, now (tree .exit)) ⌝ }
 {
-    let t = bases(tokens, tree, s);
-    let u = close(tree, start, t, 18);
-    let v = braced_elements(tokens, tree, u, depth);
-    close(tree, start, v, 17)
+    let t = bases(&*tokens, tree, s);
+    let u = node(tree, start, t, 18);
+    let v = braced_elements(&*tokens, tree, u, depth);
+    node(tree, start, v, 17)
 }
 
 // Behind the name: (15) value_box_dcl, (17) value_dcl or (14) value_forward_dcl.
 fn behind_name(tokens: &[u32], tree: &mut [u32], start: Reading, s: Reading, depth: u32) -> Reading
     requires { ⌜ Short (now tokens) ⌝ }
-    ensures { λ r. ⌜ Within (now (tokens .entry)) depth start behind-name (s, now (tree .entry)) (r, now (tree .exit)) ⌝ }
+    ensures { λ r. ⌜ From (now (tokens .entry)) depth start several behind-name (s, now (tree .entry)) (r, now (tree .exit)) ⌝ }
 {
     let next = next_kind(tokens, s);
     if starts_type(next) {
-        let t = type_spec(tokens, tree, s, depth);
-        return close(tree, start, t, 15);
+        let t = type_spec(&*tokens, tree, s, depth);
+        return node(tree, start, t, 15);
     }
     match next {
-        kind::COLON | kind::SUPPORTS | kind::OPEN_BRACE => value_dcl(tokens, tree, start, s, depth),
-        _ => close(tree, start, s, 14),
+        kind::COLON | kind::SUPPORTS | kind::OPEN_BRACE => value_dcl(
+            &*tokens,
+            tree,
+            start,
+            s,
+            depth,
+        ),
+        _ => node(tree, start, s, 14),
     }
 }
 
@@ -297,8 +302,7 @@ pub fn value(tokens: &[u32], tree: &mut [u32], start: Reading, s: Reading, depth
 {
     let t = take(tokens, s, kind::VALUETYPE);
     let u = take(tokens, t, kind::IDENTIFIER);
-    let v = behind_name(tokens, tree, start, u, depth);
-    close(tree, start, v, 13)
+    behind_name(&*tokens, tree, start, u, depth)
 }
 
 // (13) value, behind "custom": one with a body.
@@ -314,8 +318,7 @@ pub fn custom_value(
 {
     let t = take(tokens, s, kind::VALUETYPE);
     let u = take(tokens, t, kind::IDENTIFIER);
-    let v = value_dcl(tokens, tree, start, u, depth);
-    close(tree, start, v, 13)
+    value_dcl(&*tokens, tree, start, u, depth)
 }
 
 // Behind the name: the body of (16) value_abs_dcl.
@@ -329,9 +332,9 @@ fn value_abs_dcl(
     requires { ⌜ Short (now tokens) ⌝ }
     ensures { λ r. ⌜ Within (now (tokens .entry)) depth start abstract-body (s, now (tree .entry)) (r, now (tree .exit)) ⌝ }
 {
-    let t = bases(tokens, tree, s);
-    let u = braced_exports(tokens, tree, t, depth);
-    close(tree, start, u, 16)
+    let t = bases(&*tokens, tree, s);
+    let u = braced_exports(&*tokens, tree, t, depth);
+    node(tree, start, u, 16)
 }
 
 // (13) value, behind "abstract": one with a body, or (14) value_forward_dcl.
@@ -349,13 +352,13 @@ pub fn abstract_value(
     let u = take(tokens, t, kind::IDENTIFIER);
     let next = next_kind(tokens, u);
     match next {
-        kind::COLON | kind::SUPPORTS | kind::OPEN_BRACE => {
-            let v = value_abs_dcl(tokens, tree, start, u, depth);
-            close(tree, start, v, 13)
-        }
-        _ => {
-            let v = close(tree, start, u, 14);
-            close(tree, start, v, 13)
-        }
+        kind::COLON | kind::SUPPORTS | kind::OPEN_BRACE => value_abs_dcl(
+            &*tokens,
+            tree,
+            start,
+            u,
+            depth,
+        ),
+        _ => node(tree, start, u, 14),
     }
 }

@@ -21,10 +21,9 @@ use Rattle.replies.specs.Replies.{outside-limits}
 use Rattle.tables.specs.Tables.{capacity, token-width}
 use Rattle.tables.specs.Laws.{capacity-fits}
 use Rattle.meaning.specs.Calls.{good-tree-call, TreeAnswered}
-use Rattle.readers_core.specs.declared.Reading.{Reading}
-use Rattle.readers_core.specs.Reading.{Reads}
+use Rattle.readers_core.specs.Reading.{view, Reads}
 use Rattle.tree.specs.Conclusion.{concluded, kept-tree}
-use Rattle.tree.proofs.Judged.{beginning, Right, judged}
+use Rattle.tree.proofs.Judged.{judged}
 
 and-false : (a : Bool) → (a && false) ≡ false
 and-false true = refl
@@ -56,11 +55,11 @@ module _ (most deepest : ℕ) (tokens : List ℕ) (count text : ℕ) (tree : Lis
 
   -- a good call
   module _ {r : Bounded} {l : Limits} (a : r ≡ bounded most deepest text setting) (b : r ≡ Good l) (few : count ≤ capacity token-width tokens)
-      (inside : count ≤ text) (ceiling : most < 2 ^ 27) where
+      (inside : count ≤ text) (ceiling : most < 2 ^ 26) where
     good : good-call most deepest text setting ≡ true
     good = within-good most deepest text setting a b
 
-    pub text-small : text < 2 ^ 27
+    pub text-small : text < 2 ^ 26
     text-small =
         let h = leb-true text most (and-left (good-text most text) (good-depth deepest setting) good) in
         omega arith
@@ -71,9 +70,9 @@ module _ (most deepest : ℕ) (tokens : List ℕ) (count text : ℕ) (tree : Lis
         let f = length-take-le (token-width * count) tokens (capacity-fits token-width tokens count few) in
         omega arith
 
-    pub answered : {s : Reading} {w : List ℕ} {reply : Reply} {tree′ : List ℕ} → length w ≡ length tree →
-        Reads (take (token-width * count) tokens) setting (call 1) (beginning, tree) (s, w) →
-        reply ≡ concluded (take (token-width * count) tokens) w count text s → tree′ ≡ kept-tree w count s →
+    pub answered : {s : ℕ} {w : List ℕ} {reply : Reply} {tree′ : List ℕ} → length w ≡ length tree →
+        Reads (take (token-width * count) tokens) setting (call 1) (0, tree) (s, w) →
+        reply ≡ concluded (take (token-width * count) tokens) w count text (view s) → tree′ ≡ kept-tree w count (view s) →
         TreeAnswered idl most deepest tokens count text tree setting reply tree′
     answered {s} {w} same reads e f = record {
       outside = λ u. absurd (true≢false (sym (rw (good, le-leb count (capacity token-width tokens) few, le-leb count text inside)) ∙ u));

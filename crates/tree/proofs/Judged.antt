@@ -12,7 +12,8 @@ use Rattle.grammar.specs.Derivation as grammar
 use Rattle.grammar.specs.Derivation.{Derivation}
 use Rattle.grammar.specs.Forest.{Forest, end}
 use Rattle.grammar.specs.Idl.{idl}
-use Rattle.grammar.specs.Record.{TreeRecord, tree-record, records}
+use Rattle.grammar.specs.Record.{TreeRecord, tree-record, records, shape}
+use Rattle.grammar.specs.Sets.{elem}
 use Rattle.prediction.specs.IdlChecked.{idl-checked, idl-table}
 use Rattle.prediction.specs.Plan.{call}
 use Rattle.prediction.specs.Run.{Outcome, done, blame, deep, Runs}
@@ -28,8 +29,8 @@ use Rattle.meaning.specs.Verdict.{Verdict, verdict}
 use Rattle.meaning.specs.Answer.{place, tree-reply, tree-after}
 use Rattle.meaning.specs.Calls.{first-records}
 use Rattle.verdicts.specs.Outcomes.{of-outcome, outcome-verdict}
-use Rattle.readers_core.specs.declared.Reading.{Reading}
-use Rattle.readers_core.specs.Reading.{kind-at, ceiling, counted, write, writes, State, Held, Ends, ends-done, ends-blame, ends-deep, Ran, Reads}
+use Rattle.readers_core.specs.Reading.{Reading, view, ceiling, write, writes, nothing, Held, Ends, ends-done, ends-blame}
+use Rattle.readers_core.specs.Reading.{ends-deep, Reads}
 use Rattle.readers_core.proofs.Holding.{held-none}
 use Rattle.readers_core.proofs.Storing.{write-below}
 use Rattle.tree.specs.Conclusion.{complete, concluded, kept-tree}
@@ -41,16 +42,16 @@ unfolding writes store
 writes-stored w n [] h = refl
 writes-stored w n (tree-record a b c d ∷ rs) h =
     writes-stored (write w n (tree-record a b c d)) (suc n) rs (omega arith)
-    ∙ ap (λ (v : List ℕ). store node-width v (suc n) (map numbers rs)) (sym (write-below w n a b c d (omega arith)))
+    ∙ ap (λ (v : List ℕ). store node-width v (suc n) (map numbers rs)) (sym (write-below w a (omega arith) refl refl refl refl))
 
 zeroed-same : (w w′ : List ℕ) → length w′ ≡ length w → zeroed w′ ≡ zeroed w
 zeroed-same w w′ e = rw e
 
 -- a reader's state before anything is read
-abbrev pub beginning : Reading
-beginning = record { answer = 0; at = 0; count = 0; shape = 0 }
+abbrev beginning : Reading
+beginning = view 0
 
-module _ (tokens : List ℕ) (count text depth : ℕ) (fits : token-width * count ≤ length tokens) (few : count < 2 ^ 27) where
+module _ (tokens : List ℕ) (count text depth : ℕ) (fits : token-width * count ≤ length tokens) (few : count < 2 ^ 26) where
   abbrev pub list : List ℕ
   list = take (token-width * count) tokens
 
@@ -165,12 +166,13 @@ module _ (tokens : List ℕ) (count text depth : ℕ) (fits : token-width * coun
         blamed-right q (stopped-here (λ e. omega arith)) (ne-eqb (s .answer) 8 (λ e. omega arith)) p
     outcome-right (says-deep {q} l v t) (ends-deep a p) = deep-right q (stopped-here (λ e. omega arith)) (eq-eqb (s .answer) 8 a) p
 
-    -- so whatever the list means, the reading concluded is its verdict
-    pub judged : Reads list depth (call 1) (beginning, w) (s, w′) → (sense : Sense) → Means idl kinds sense →
-        Right w w′ s (verdict depth room kinds sense)
-    unfolding idl list kinds ts
-    judged r sense m =
-        let ran = r .in-any beginning .does (beginning, w) refl refl .runs refl end in
-        let run = subst (λ (k : ℕ → ℕ). Runs idl-table k depth (call 1) 0 end (ran .outcome)) (fun-ext (kinds-listed count tokens fits)) (ran .run) in
-        let e = outcome-verdict idl-checked depth room kinds (says idl-checked depth kinds (ran .outcome) run) m in
-        subst (λ (v : Verdict). Right w w′ s v) e (outcome-right (says idl-checked depth kinds (ran .outcome) run) (ran .ends))
+  -- so whatever the list means, the reading concluded is its verdict
+  pub judged : (w w′ : List ℕ) → length w′ ≡ length w → (s : ℕ) → Reads list depth (call 1) (0, w) (s, w′) →
+      (sense : Sense) → Means idl kinds sense → Right w w′ (view s) (verdict depth (capacity node-width w) kinds sense)
+  unfolding idl shape elem
+  judged w w′ same s r sense m =
+      let ran = r .in-any 0 nothing .does (beginning, w) refl refl .runs refl end tt in
+      let run = subst (λ (k : ℕ → ℕ). Runs idl-table k depth (call 1) 0 end (ran .outcome)) (fun-ext (kinds-listed count tokens fits)) (ran .run) in
+      let e = outcome-verdict idl-checked depth (capacity node-width w) kinds (says idl-checked depth kinds (ran .outcome) run) m in
+      subst (λ (v : Verdict). Right w w′ (view s) v) e
+      (outcome-right w w′ same (view s) (says idl-checked depth kinds (ran .outcome) run) (ran .ends))

@@ -8,7 +8,7 @@ use lib.ListN.{getD}
 use Rattle.replies.specs.declared.Reply.{Reply}
 use Rattle.replies.specs.Replies as replies
 use Rattle.tables.specs.Tables.{capacity, zeroed, token-width, node-width}
-use Rattle.readers_core.specs.declared.Reading.{Reading}
+use Rattle.readers_core.specs.Reading.{Reading}
 
 -- the place of token i of a list of records: its first byte, or the text's length past the last token
 abbrev pub place-in : (list : List ℕ) (text i : ℕ) → ℕ

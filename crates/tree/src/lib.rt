@@ -2,10 +2,15 @@
 ghost use mathlib.Core.Path.{_≡_};
 ghost use Rattle.tree.specs.Conclusion.{place-in, complete, concluded, kept-tree};
 ghost use Rattle.grammar.specs.Idl.{idl};
+ghost use Rattle.readers_core.specs.Reading.{view};
 ghost use Rattle.meaning.specs.Calls.{TreeAnswered};
 use limits::Bounded;
 use limits::Limits;
 use readers_core::Reading;
+use readers_core::has_stopped;
+use readers_core::is_too_deep;
+use readers_core::place;
+use readers_core::records;
 use readers_specification::specification;
 use replies::Reply;
 use tables::clear;
@@ -20,32 +25,33 @@ fn place_of(list: &[u32], text: u32, i: u32) -> u32
 
 // Whether the whole list is read.
 fn is_complete(count: u32, s: Reading) -> bool
-    ensures { λ r. ⌜ r ≡ complete count s ⌝ }
+    ensures { λ r. ⌜ r ≡ complete count (view s) ⌝ }
 {
-    if s.answer != 0 {
+    if has_stopped(s) {
         return false;
     }
-    s.at == count
+    place(s) == count
 }
 
 // What the state in which reading has ended answers. A refusal clears the tree table.
 fn conclude(list: &[u32], count: u32, text: u32, tree: &mut [u32], s: Reading) -> Reply
-    ensures reply { λ r. ⌜ r ≡ concluded (now (list .entry)) (now (tree .entry)) count text s ⌝ }
-    ensures table { λ _. ⌜ now (tree .exit) ≡ kept-tree (now (tree .entry)) count s ⌝ }
+    ensures reply { λ r. ⌜ r ≡ concluded (now (list .entry)) (now (tree .entry)) count text (view s) ⌝ }
+    ensures table { λ _. ⌜ now (tree .exit) ≡ kept-tree (now (tree .entry)) count (view s) ⌝ }
 {
     if is_complete(count, s) {
-        if (tree.len() / 4) < (s.count as usize) {
+        let needed = records(s);
+        if (tree.len() / 4) < (needed as usize) {
             clear(tree);
-            return Reply::more_records(text, count, s.count);
+            return Reply::more_records(text, count, needed);
         }
-        return Reply::accepted(text, count, s.count);
+        return Reply::accepted(text, count, needed);
     }
     clear(tree);
-    let place = place_of(list, text, s.at);
-    if s.answer == 8 {
-        return Reply::too_deep(place, count);
+    let first = place_of(list, text, place(s));
+    if is_too_deep(s) {
+        return Reply::too_deep(first, count);
     }
-    Reply::grammar(place, count)
+    Reply::grammar(first, count)
 }
 
 // The tree part, on a token table that it only reads, for a text of this length.
@@ -66,12 +72,6 @@ pub fn read_tree(tokens: &[u32], count: usize, text: usize, tree: &mut [u32], de
         return Reply::outside_limits();
     }
     let list = &tokens[..3 * count];
-    let beginning = Reading {
-        answer: 0,
-        at: 0,
-        count: 0,
-        shape: 0,
-    };
-    let end = specification(list, tree, beginning, depth);
+    let end = specification(list, tree, 0, depth);
     conclude(list, count as u32, text as u32, tree, end)
 }

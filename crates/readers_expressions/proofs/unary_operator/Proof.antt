@@ -6,6 +6,8 @@ use Rattle.prediction.specs.IdlPlans.{idl-prediction}
 use Rattle.readers_core.proofs.Choosing.{Knows, among, choose, except, one-of}
 use Rattle.readers_core.proofs.Frames.{chosen, frame, taken-of}
 use Rattle.readers_core.proofs.Sequence.{_▸_}
+use Rattle.readers_core.proofs.Shapes.{leaves}
+use Rattle.readers_core.specs.Reading.{all-recorded, none-recorded}
 use borrow.Author.Needs.{needs}
 use mathlib.Core.List.{[], _∷_}
 use mathlib.Core.Logic.{⊎-elim}
@@ -14,40 +16,36 @@ use Rattle.readers_expressions.proofs.unary_operator.Statement.{stateme
 use Rattle.readers_expressions.proofs.unary_operator.Tie as tie
 
 take-requires : tie.Need-take-requires
-unfolding table round plan-at idl-prediction choose Knows one-of
+unfolding table round plan-at idl-prediction choose Knows one-of leaves all-recorded none-recorded
 take-requires c κs = (search needs, ⊎-elim (λ e. omega (arith, e)) (λ e. omega (arith, e)) (c .match .keys1))
 
 returns : tie.Need-returns
-unfolding table round plan-at idl-prediction choose Knows one-of
+unfolding table round plan-at idl-prediction choose Knows one-of leaves all-recorded none-recorded
 returns c =
-    let enter = c .before .before .before .before .before .before .before .enter in
     let next-kind = c .before .before .before .before .before .before .next-kind in
     let match-on = c .before .before .before .before .before .match in
     let take = c .before .before .before .before .take in
-    let leave = c .before .before .leave in
+    let node = c .before .before .node in
     record {
       at-any =
-          λ d. frame 37 (enter .ensures)
-          (taken-of (among (83 ∷ 87 ∷ [])) (next-kind .ensures) (match-on .keys1) tt (take .ensures .reads _ _ .in-any _)
-          ▸ (leave .ensures .closes .wraps _ _)) (leave .ensures .joins);
+          λ d. frame 37 (taken-of (among (83 ∷ 87 ∷ [])) (next-kind .ensures) (match-on .keys1) tt
+          ((take .ensures .reads _ _ .in-any _ _) ▸ (node .ensures .wraps _ _ _ tt)));
     }
 
 returns-2 : tie.Need-returns-2
-unfolding table round plan-at idl-prediction choose Knows one-of
+unfolding table round plan-at idl-prediction choose Knows one-of leaves all-recorded none-recorded
 returns-2 c =
-    let enter = c .before .before .before .before .before .before .before .enter in
     let next-kind = c .before .before .before .before .before .before .next-kind in
     let match-on = c .before .before .before .before .before .match in
     let take2 = c .before .before .before .before .take2 in
-    let leave2 = c .before .before .leave2 in
+    let node2 = c .before .before .node2 in
     record {
       at-any =
-          λ d. frame 37 (enter .ensures)
-          (chosen (except ((83 ∷ 87 ∷ []) ∷ [])) (next-kind .ensures) (match-on .rest)
-          ((take2 .ensures .reads _ _ .in-any _) ▸ (leave2 .ensures .closes .wraps _ _))) (leave2 .ensures .joins);
+          λ d. frame 37 (chosen (except ((83 ∷ 87 ∷ []) ∷ [])) (next-kind .ensures) (match-on .rest)
+          ((take2 .ensures .reads _ _ .in-any _ _) ▸ (node2 .ensures .wraps _ _ _ tt)));
     }
 
 pub unary-operator-spec : {M : Type 1} → statement M
 unary-operator-spec =
-    tie.close (tie.spec (λ c κs. search needs) (λ c κs. search needs) take-requires (λ c κs. search needs)
-    (λ c κs. search needs) (λ c κs. search needs) (λ c. search needs) returns (λ c. search needs) returns-2)
+    tie.close (tie.spec (λ c κs. search needs) take-requires (λ c κs. search needs) (λ c κs. search needs)
+    (λ c κs. search needs) (λ c. search needs) returns (λ c. search needs) returns-2)

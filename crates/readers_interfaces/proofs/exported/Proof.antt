@@ -21,10 +21,9 @@ returns c =
     let if1 = c .before .before .before .before .before .if1 in
     let type-dcl = c .before .before .before .type-dcl in
     record {
-      in-any =
-          λ start. chosen (among type-dcl-starts) (next-kind .ensures)
+      in-any = λ start hs. chosen (among type-dcl-starts) (next-kind .ensures)
           (is-in type-dcl-starts _ (starts-type-dcl .ensures) (if1 .taken))
-          ((type-dcl .ensures .in-any _) ▸ (c .take .ensures .reads _ _ .in-any _));
+          ((type-dcl .ensures .in-any _ _) ▸ (c .take .ensures .reads _ _ .in-any _ _));
     }
 
 returns-2 : tie.Need-returns-2
@@ -34,8 +33,8 @@ returns-2 c =
     let match-on = c .before .before .before .before .before .match in
     let const-dcl = c .before .before .before .const-dcl in
     record {
-      in-any = λ start. chosen (among (26 ∷ [])) (next-kind .ensures) (match-on .keys1)
-          ((const-dcl .ensures .in-any _) ▸ (c .take2 .ensures .reads _ _ .in-any _));
+      in-any = λ start hs. chosen (among (26 ∷ [])) (next-kind .ensures) (match-on .keys1)
+          ((const-dcl .ensures .in-any _ _) ▸ (c .take2 .ensures .reads _ _ .in-any _ _));
     }
 
 returns-3 : tie.Need-returns-3
@@ -45,8 +44,8 @@ returns-3 c =
     let match-on = c .before .before .before .before .before .match in
     let except-dcl = c .before .before .before .except-dcl in
     record {
-      in-any = λ start. chosen (among (32 ∷ [])) (next-kind .ensures) (match-on .keys2)
-          ((except-dcl .ensures .in-any _) ▸ (c .take3 .ensures .reads _ _ .in-any _));
+      in-any = λ start hs. chosen (among (32 ∷ [])) (next-kind .ensures) (match-on .keys2)
+          ((except-dcl .ensures .in-any _ _) ▸ (c .take3 .ensures .reads _ _ .in-any _ _));
     }
 
 returns-4 : tie.Need-returns-4
@@ -56,8 +55,8 @@ returns-4 c =
     let match-on = c .before .before .before .before .before .match in
     let attr-dcl = c .before .before .before .attr-dcl in
     record {
-      in-any = λ start. chosen (among (22 ∷ 49 ∷ [])) (next-kind .ensures) (match-on .keys3)
-          ((attr-dcl .ensures .in-any _) ▸ (c .take4 .ensures .reads _ _ .in-any _));
+      in-any = λ start hs. chosen (among (22 ∷ 49 ∷ [])) (next-kind .ensures) (match-on .keys3)
+          ((attr-dcl .ensures .in-any _ _) ▸ (c .take4 .ensures .reads _ _ .in-any _ _));
     }
 
 returns-5 : tie.Need-returns-5
@@ -69,7 +68,7 @@ returns-5 c =
     let match-on = c .before .before .before .before .before .match in
     let op-dcl = c .before .before .before .op-dcl in
     record {
-      in-any = λ start. chosen (except ((22 ∷ 49 ∷ []) ∷ (32 ∷ []) ∷ (26 ∷ []) ∷ type-dcl-starts ∷ []))
+      in-any = λ start hs. chosen (except ((22 ∷ 49 ∷ []) ∷ (32 ∷ []) ∷ (26 ∷ []) ∷ type-dcl-starts ∷ []))
           (next-kind .ensures) (
             (
               (is-out type-dcl-starts _ (starts-type-dcl .ensures) (if1 .left), (match-on .rest .0 .0 .1)),
@@ -77,7 +76,7 @@ returns-5 c =
             ),
             (match-on .rest .1),
           )
-          ((op-dcl .ensures .in-any _) ▸ (c .take5 .ensures .reads _ _ .in-any _));
+          ((op-dcl .ensures .in-any _ _) ▸ (c .take5 .ensures .reads _ _ .in-any _ _));
     }
 
 pub exported-spec : {M : Type 1} → statement M

@@ -6,7 +6,7 @@ use Rattle.prediction.specs.IdlPlans.{idl-prediction}
 use Rattle.prediction.specs.Plan.{call}
 use Rattle.readers_core.proofs.Choosing.{Knows, among, except, is-over}
 use Rattle.readers_core.proofs.Repetition.{Far, falls, far-here, far-more, far-over, remaining, repeats}
-use Rattle.readers_core.specs.declared.Reading.{Reading}
+use Prim.Native.Nat.{ℕ}
 use Rattle.readers_interfaces.specs.Plans.{export-starts}
 use Rattle.readers_structs.proofs.Starts.{is-in, is-out}
 use borrow.Author.Needs.{needs}
@@ -17,11 +17,11 @@ use Rattle.readers_interfaces.proofs.exports.Statement.{statement}
 use Rattle.readers_interfaces.proofs.exports.Tie as tie
 
 abbrev Inv-loop : tie.InvT-loop
-Inv-loop tokens tree₀ d t₀ tree t =
-    (length tree ≡ length tree₀) × ((start : Reading) → Far tokens d start (call 9) (t₀, tree₀) (t, tree))
+Inv-loop tokens tree₀ s d t₀ tree t =
+    (length tree ≡ length tree₀) × ((start : ℕ) → Far tokens d start (call 9) (s, tree₀) (t, tree))
 
 abbrev μ-loop : tie.MeasureT-loop
-μ-loop tokens tree₀ d t₀ tree t = remaining tokens t
+μ-loop tokens tree₀ s d t₀ tree t = remaining tokens t
 
 loop-holds : tie.Need-loop-holds Inv-loop μ-loop
 loop-holds c = (refl, λ start. far-here)
@@ -35,7 +35,7 @@ loop-less c =
     let if1 = c .before .before .before .before .if1 in
     let export = c .before .before .export in
     falls {start = (loop .t)} (among export-starts) (next-kind .ensures)
-    (is-in export-starts _ (starts-export .ensures) (if1 .taken)) tt (export .ensures .in-any _)
+    (is-in export-starts _ (starts-export .ensures) (if1 .taken)) tt (λ hs. export .ensures .in-any _ hs)
 
 loop-again : tie.Need-loop-again Inv-loop μ-loop
 unfolding table round plan-at idl-prediction Knows repeats is-over
@@ -47,7 +47,7 @@ loop-again c =
     let export = c .before .before .export in (
       (export .kept .1 .0) ∙ (loop .inv .0),
       λ start. far-more (among export-starts) (next-kind .ensures)
-          (is-in export-starts _ (starts-export .ensures) (if1 .taken)) tt (export .ensures .in-any _)
+          (is-in export-starts _ (starts-export .ensures) (if1 .taken)) tt (λ hs. export .ensures .in-any _ hs)
           ((loop .inv .1) start),
     )
 
@@ -58,8 +58,7 @@ returns c =
     let next-kind = c .before .before .next-kind in
     let starts-export = c .before .starts-export in
     record {
-      in-any =
-          λ start. far-over (except (export-starts ∷ [])) (next-kind .ensures)
+      in-any = λ start. far-over (except (export-starts ∷ [])) (next-kind .ensures)
           (is-out export-starts _ (starts-export .ensures) (c .if1 .left)) tt ((loop .inv .1) start);
     }
 

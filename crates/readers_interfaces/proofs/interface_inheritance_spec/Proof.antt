@@ -7,26 +7,26 @@ use Rattle.readers_core.proofs.Frames.{frame}
 use Rattle.readers_core.proofs.Sequence.{_▸_}
 use Rattle.readers_interfaces.proofs.Lines.{_▸▸_, append}
 use Rattle.readers_interfaces.proofs.Names.{interface-names}
+use Rattle.readers_core.proofs.Shapes.{leaves}
+use Rattle.readers_core.specs.Reading.{all-recorded, none-recorded}
 use borrow.Author.Needs.{needs}
 use Rattle.readers_interfaces.proofs.interface_inheritance_spec.Statement.{statement}
 use Rattle.readers_interfaces.proofs.interface_inheritance_spec.Tie as tie
 
 returns : tie.Need-returns
-unfolding table round plan-at idl-prediction append
+unfolding table round plan-at idl-prediction append leaves all-recorded none-recorded
 returns c =
-    let enter = c .before .before .before .before .before .before .before .before .before .enter in
     let take = c .before .before .before .before .before .before .before .before .take in
     let scoped-names = c .before .before .before .before .before .before .scoped-names in
-    let leave = c .before .before .leave in
+    let node = c .before .before .node in
     record {
       at-any =
-          λ d. frame 10 (enter .ensures)
-          ((take .ensures .reads _ _ .in-any _) ▸
-          ((scoped-names .ensures .by-rule) 11 interface-names .at-any d .in-any _ ▸▸
-          (leave .ensures .closes .wraps _ _))) (leave .ensures .joins);
+          λ d. frame 10 ((take .ensures .reads _ _ .in-any _ _) ▸
+          ((scoped-names .ensures .by-rule) 11 interface-names .at-any d .in-any _ _ ▸▸
+          (node .ensures .wraps _ _ _ tt)));
     }
 
 pub interface-inheritance-spec-spec : {M : Type 1} → statement M
 interface-inheritance-spec-spec =
-    tie.close (tie.spec (λ c κs. search needs) (λ c κs. search needs) (λ c κs. search needs)
-    (λ c κs. search needs) (λ c. search needs) returns)
+    tie.close (tie.spec (λ c κs. search needs) (λ c κs. search needs) (λ c κs. search needs) (λ c. search needs)
+    returns)

@@ -1,14 +1,14 @@
 -- `base_type_spec` reads rule 46: a number type in a frame of its own, or a rule of one word, whose node is passed on.
 -- The kind ahead tells which. Assumes nothing.
-use Rattle.grammar.specs.Record.{recorded}
 use Rattle.prediction.specs.Check.{table}
 use Rattle.prediction.specs.Columns.{plan-at, round}
 use Rattle.prediction.specs.IdlPlans.{idl-prediction}
-use Rattle.readers_core.proofs.Chain.{passed-on, single}
+use Rattle.readers_core.proofs.Frames.{frame-on, passed-on}
 use Rattle.readers_core.proofs.Choosing.{Knows, among, choose, except}
-use Rattle.readers_core.proofs.Frames.{frame-on, from-start}
-use Rattle.readers_core.proofs.Sequence.{_▸_}
+use Rattle.readers_core.proofs.Sequence.{_▸_, unrecorded}
 use Rattle.readers_names.specs.Plans.{number-type}
+use Rattle.readers_core.proofs.Shapes.{leaves}
+use Rattle.readers_core.specs.Reading.{all-recorded, none-recorded}
 use borrow.Author.Needs.{needs}
 use mathlib.Core.List.{[], _∷_}
 use mathlib.Core.Path.{refl}
@@ -16,22 +16,18 @@ use Rattle.readers_names.proofs.base_type_spec.Statement.{statement}
 use Rattle.readers_names.proofs.base_type_spec.Tie as tie
 
 returns : tie.Need-returns
-unfolding table round plan-at idl-prediction choose Knows single recorded
+unfolding table round plan-at idl-prediction choose Knows leaves all-recorded none-recorded
 returns c =
-    let next-kind = c .before .before .before .before .before .before .before .before .before .before .next-kind in
-    let match-on = c .before .before .before .before .before .before .before .before .before .match in
-    let enter = c .before .before .before .before .before .before .before .before .enter in
-    let number-type = c .before .before .before .before .before .before .number-type in
-    let leave = c .before .before .leave in
+    let next-kind = c .before .before .before .before .before .next-kind in
+    let match-on = c .before .before .before .before .match in
+    let number-type = c .before .before .number-type in
     record {
       at-any = λ d. frame-on 46 (among (30 ∷ 35 ∷ 40 ∷ 51 ∷ 59 ∷ [])) (next-kind .ensures) (match-on .keys1)
-          (enter .ensures)
-          (from-start (enter .ensures) (number-type .ensures .at-any _) ▸ (leave .ensures .closes .wraps _ _))
-          (leave .ensures .joins);
+          ((number-type .ensures .at-any _) ▸ unrecorded tt);
     }
 
 returns-2 : tie.Need-returns-2
-unfolding table round plan-at idl-prediction choose Knows single recorded
+unfolding table round plan-at idl-prediction choose Knows leaves all-recorded none-recorded
 returns-2 c =
     let next-kind = c .before .before .before .before .before .next-kind in
     let match-on = c .before .before .before .before .match in
@@ -42,7 +38,7 @@ returns-2 c =
     }
 
 returns-3 : tie.Need-returns-3
-unfolding table round plan-at idl-prediction choose Knows single recorded
+unfolding table round plan-at idl-prediction choose Knows leaves all-recorded none-recorded
 returns-3 c =
     let next-kind = c .before .before .before .before .before .next-kind in
     let match-on = c .before .before .before .before .match in
@@ -53,7 +49,7 @@ returns-3 c =
     }
 
 returns-4 : tie.Need-returns-4
-unfolding table round plan-at idl-prediction choose Knows single recorded
+unfolding table round plan-at idl-prediction choose Knows leaves all-recorded none-recorded
 returns-4 c =
     let next-kind = c .before .before .before .before .before .next-kind in
     let match-on = c .before .before .before .before .match in
@@ -64,7 +60,7 @@ returns-4 c =
     }
 
 returns-5 : tie.Need-returns-5
-unfolding table round plan-at idl-prediction choose Knows single recorded
+unfolding table round plan-at idl-prediction choose Knows leaves all-recorded none-recorded
 returns-5 c =
     let next-kind = c .before .before .before .before .before .next-kind in
     let match-on = c .before .before .before .before .match in
@@ -75,7 +71,7 @@ returns-5 c =
     }
 
 returns-6 : tie.Need-returns-6
-unfolding table round plan-at idl-prediction choose Knows single recorded
+unfolding table round plan-at idl-prediction choose Knows leaves all-recorded none-recorded
 returns-6 c =
     let next-kind = c .before .before .before .before .before .next-kind in
     let match-on = c .before .before .before .before .match in
@@ -86,7 +82,7 @@ returns-6 c =
     }
 
 returns-7 : tie.Need-returns-7
-unfolding table round plan-at idl-prediction choose Knows single recorded
+unfolding table round plan-at idl-prediction choose Knows leaves all-recorded none-recorded
 returns-7 c =
     let next-kind = c .before .before .before .before .before .next-kind in
     let match-on = c .before .before .before .before .match in
@@ -97,7 +93,7 @@ returns-7 c =
     }
 
 returns-8 : tie.Need-returns-8
-unfolding table round plan-at idl-prediction choose Knows single recorded
+unfolding table round plan-at idl-prediction choose Knows leaves all-recorded none-recorded
 returns-8 c =
     let next-kind = c .before .before .before .before .before .next-kind in
     let match-on = c .before .before .before .before .match in
@@ -113,7 +109,6 @@ pub base-type-spec-spec : {M : Type 1} → statement M
 base-type-spec-spec =
     tie.close (tie.spec (λ c κs. search needs) (λ c κs. search needs) (λ c κs. search needs)
     (λ c κs. search needs) (λ c κs. search needs) (λ c κs. search needs) (λ c κs. search needs)
-    (λ c κs. search needs) (λ c κs. search needs) (λ c κs. search needs) (λ c κs. search needs)
-    (λ c. search needs) returns (λ c. search needs) returns-2 (λ c. search needs) returns-3 (λ c. search needs)
-    returns-4 (λ c. search needs) returns-5 (λ c. search needs) returns-6 (λ c. search needs) returns-7
-    (λ c. search needs) returns-8)
+    (λ c κs. search needs) (λ c κs. search needs) (λ c. search needs) returns (λ c. search needs) returns-2
+    (λ c. search needs) returns-3 (λ c. search needs) returns-4 (λ c. search needs) returns-5
+    (λ c. search needs) returns-6 (λ c. search needs) returns-7 (λ c. search needs) returns-8)

@@ -3,33 +3,35 @@
 use Rattle.readers_core.proofs.Choosing.{Knows, among, choose, except}
 use Rattle.readers_core.proofs.Frames.{chosen}
 use Rattle.readers_core.proofs.Sequence.{_▸_}
+use Rattle.readers_core.proofs.Shapes.{leaves}
+use Rattle.readers_core.specs.Reading.{all-recorded, none-recorded}
 use borrow.Author.Needs.{needs}
 use mathlib.Core.List.{[], _∷_}
 use Rattle.readers_names.proofs.behind_long.Statement.{statement}
 use Rattle.readers_names.proofs.behind_long.Tie as tie
 
 returns : tie.Need-returns
-unfolding choose Knows
+unfolding choose Knows leaves all-recorded none-recorded
 returns c =
     let next-kind = c .before .before .before .before .before .before .next-kind in
     let match-on = c .before .before .before .before .before .match in
     let take = c .before .before .before .before .take in
-    let close = c .before .before .close in
+    let node = c .before .before .node in
     record {
       at-any =
           λ d. chosen (among (40 ∷ [])) (next-kind .ensures) (match-on .keys1)
-          ((take .ensures .reads _ _ .in-any _) ▸ (close .ensures .wraps _ _));
+          ((take .ensures .reads _ _ .in-any _ _) ▸ (node .ensures .wraps _ _ _ tt));
     }
 
 returns-2 : tie.Need-returns-2
-unfolding choose Knows
+unfolding choose Knows leaves all-recorded none-recorded
 returns-2 c =
     let next-kind = c .before .before .before .before .before .next-kind in
     let match-on = c .before .before .before .before .match in
-    let close2 = c .before .before .close2 in
+    let node2 = c .before .before .node2 in
     record {
       at-any = λ d. chosen (except ((40 ∷ []) ∷ [])) (next-kind .ensures) (match-on .rest)
-          (close2 .ensures .wraps _ _);
+          (node2 .ensures .wraps _ _ _ tt);
     }
 
 pub behind-long-spec : {M : Type 1} → statement M

@@ -17,8 +17,8 @@ returns c =
     record {
       reads =
           λ d w. record {
-            in-any = λ start. chosen (among (69 ∷ [])) (next-kind .ensures) (match-on .keys1)
-                ((take .ensures .reads _ _ .in-any _) ▸ (c .take2 .ensures .reads _ _ .in-any _));
+            in-any = λ start hs. chosen (among (69 ∷ [])) (next-kind .ensures) (match-on .keys1)
+                ((take .ensures .reads _ _ .in-any _ _) ▸ (c .take2 .ensures .reads _ _ .in-any _ _));
           };
     }
 
@@ -30,8 +30,8 @@ returns-2 c =
     record {
       reads =
           λ d w. record {
-            in-any = λ start. chosen (except ((69 ∷ []) ∷ [])) (next-kind .ensures) (match-on .rest)
-                (c .take3 .ensures .reads _ _ .in-any _);
+            in-any = λ start hs. chosen (except ((69 ∷ []) ∷ [])) (next-kind .ensures) (match-on .rest)
+                (c .take3 .ensures .reads _ _ .in-any _ _);
           };
     }
 

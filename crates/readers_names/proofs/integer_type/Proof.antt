@@ -1,11 +1,12 @@
 -- `integer_type` reads rule 54, which passes another rule's node on.
 -- The kind ahead tells which. Assumes nothing.
-use Rattle.grammar.specs.Record.{recorded}
 use Rattle.prediction.specs.Check.{table}
 use Rattle.prediction.specs.Columns.{plan-at, round}
 use Rattle.prediction.specs.IdlPlans.{idl-prediction}
-use Rattle.readers_core.proofs.Chain.{passed-on, single}
+use Rattle.readers_core.proofs.Frames.{passed-on}
 use Rattle.readers_core.proofs.Choosing.{Knows, among, choose, except}
+use Rattle.readers_core.proofs.Shapes.{leaves}
+use Rattle.readers_core.specs.Reading.{all-recorded, none-recorded}
 use borrow.Author.Needs.{needs}
 use mathlib.Core.List.{[], _∷_}
 use mathlib.Core.Path.{refl}
@@ -13,7 +14,7 @@ use Rattle.readers_names.proofs.integer_type.Statement.{statement}
 use Rattle.readers_names.proofs.integer_type.Tie as tie
 
 returns : tie.Need-returns
-unfolding table round plan-at idl-prediction choose Knows single recorded
+unfolding table round plan-at idl-prediction choose Knows leaves all-recorded none-recorded
 returns c =
     let next-kind = c .before .before .before .before .before .next-kind in
     let match-on = c .before .before .before .before .match in
@@ -24,7 +25,7 @@ returns c =
     }
 
 returns-2 : tie.Need-returns-2
-unfolding table round plan-at idl-prediction choose Knows single recorded
+unfolding table round plan-at idl-prediction choose Knows leaves all-recorded none-recorded
 returns-2 c =
     let next-kind = c .before .before .before .before .before .next-kind in
     let match-on = c .before .before .before .before .match in

@@ -5,22 +5,25 @@ use Rattle.prediction.specs.Columns.{plan-at, round}
 use Rattle.prediction.specs.IdlPlans.{idl-prediction}
 use Rattle.readers_core.proofs.Frames.{frame}
 use Rattle.readers_core.proofs.Sequence.{_▸_}
+use Rattle.readers_core.proofs.Shapes.{leaves}
+use Rattle.readers_core.specs.Reading.{all-recorded, none-recorded}
 use borrow.Author.Needs.{needs}
 use Rattle.readers_names.proofs.scoped_name.Statement.{statement}
 use Rattle.readers_names.proofs.scoped_name.Tie as tie
 
 returns : tie.Need-returns
-unfolding table round plan-at idl-prediction
-returns c = record {
-  at-any = λ d. frame 12
-      (c .before .before .before .before .before .before .before .before .before .before .enter .ensures)
-      ((c .before .before .before .before .before .before .before .before .before .first-name .ensures .reads _
-      _ .in-any
-      _) ▸ (c .before .before .before .before .before .before .before .close .ensures .wraps _ _) ▸
-      (c .before .before .before .further-names .ensures .at-any _)) (c .join .ensures);
-}
+unfolding table round plan-at idl-prediction leaves all-recorded none-recorded
+returns c =
+    let first-name = c .before .before .before .before .before .before .before .before .first-name in
+    let node = c .before .before .before .before .before .before .node in
+    let further-names = c .before .before .further-names in
+    record {
+      at-any = λ d. frame 12
+          ((first-name .ensures .reads _ _ .in-any _ _) ▸ (node .ensures .wraps _ _ _ tt) ▸
+          (further-names .ensures .at-any _ .of-any _));
+    }
 
 pub scoped-name-spec : {M : Type 1} → statement M
 scoped-name-spec =
-    tie.close (tie.spec (λ c κs. search needs) (λ c κs. search needs) (λ c κs. search needs)
-    (λ c κs. search needs) (λ c κs. search needs) (λ c. search needs) returns)
+    tie.close (tie.spec (λ c κs. search needs) (λ c κs. search needs) (λ c κs. search needs) (λ c. search needs)
+    returns)

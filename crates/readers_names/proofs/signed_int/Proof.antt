@@ -5,49 +5,43 @@ use Rattle.prediction.specs.Columns.{plan-at, round}
 use Rattle.prediction.specs.IdlPlans.{idl-prediction}
 use Rattle.readers_core.proofs.Choosing.{Knows, among, choose, except}
 use Rattle.readers_core.proofs.Frames.{chosen, frame}
-use Rattle.readers_core.proofs.Sequence.{_▸_}
+use Rattle.readers_core.proofs.Sequence.{_▸_, unrecorded}
 use Rattle.readers_names.specs.Plans.{behind-long}
+use Rattle.readers_core.proofs.Shapes.{leaves}
+use Rattle.readers_core.specs.Reading.{all-recorded, none-recorded}
 use borrow.Author.Needs.{needs}
 use mathlib.Core.List.{[], _∷_}
 use Rattle.readers_names.proofs.signed_int.Statement.{statement}
 use Rattle.readers_names.proofs.signed_int.Tie as tie
 
 returns : tie.Need-returns
-unfolding table round plan-at idl-prediction choose Knows
+unfolding table round plan-at idl-prediction choose Knows leaves all-recorded none-recorded
 returns c =
-    let enter = c .before .before .before .before .before .before .before .before .before .before .before .enter in
-    let next-kind = c .before .before .before .before .before .before .before .before .before .before .next-kind in
-    let match-on = c .before .before .before .before .before .before .before .before .before .match in
-    let take = c .before .before .before .before .before .before .before .before .take in
-    let close = c .before .before .before .before .before .before .close in
-    let leave = c .before .before .leave in
+    let next-kind = c .before .before .before .before .before .before .next-kind in
+    let match-on = c .before .before .before .before .before .match in
+    let take = c .before .before .before .before .take in
+    let node = c .before .before .node in
     record {
       at-any =
-          λ d. frame 55 (enter .ensures)
-          (chosen (among (51 ∷ [])) (next-kind .ensures) (match-on .keys1)
-          (((take .ensures .reads _ _ .in-any _) ▸ (close .ensures .wraps _ _)) ▸ (leave .ensures .closes .wraps _ _)))
-          (leave .ensures .joins);
+          λ d. frame 55 (chosen (among (51 ∷ [])) (next-kind .ensures) (match-on .keys1)
+          (((take .ensures .reads _ _ .in-any _ _) ▸ (node .ensures .wraps _ _ _ tt)) ▸ unrecorded tt));
     }
 
 returns-2 : tie.Need-returns-2
-unfolding table round plan-at idl-prediction choose Knows
+unfolding table round plan-at idl-prediction choose Knows leaves all-recorded none-recorded
 returns-2 c =
-    let enter = c .before .before .before .before .before .before .before .before .before .before .before .enter in
-    let next-kind = c .before .before .before .before .before .before .before .before .before .before .next-kind in
-    let match-on = c .before .before .before .before .before .before .before .before .before .match in
-    let take2 = c .before .before .before .before .before .before .before .before .take2 in
-    let behind-long = c .before .before .before .before .before .before .behind-long in
-    let leave2 = c .before .before .leave2 in
+    let next-kind = c .before .before .before .before .before .before .next-kind in
+    let match-on = c .before .before .before .before .before .match in
+    let take2 = c .before .before .before .before .take2 in
+    let behind-long = c .before .before .behind-long in
     record {
       at-any =
-          λ d. frame 55 (enter .ensures)
-          (chosen (except ((51 ∷ []) ∷ [])) (next-kind .ensures) (match-on .rest)
-          (((take2 .ensures .reads _ _ .in-any _) ▸ (behind-long .ensures .at-any _)) ▸
-          (leave2 .ensures .closes .wraps _ _))) (leave2 .ensures .joins);
+          λ d. frame 55 (chosen (except ((51 ∷ []) ∷ [])) (next-kind .ensures) (match-on .rest)
+          (((take2 .ensures .reads _ _ .in-any _ _) ▸ (behind-long .ensures .at-any _)) ▸
+          unrecorded tt));
     }
 
 pub signed-int-spec : {M : Type 1} → statement M
 signed-int-spec =
     tie.close (tie.spec (λ c κs. search needs) (λ c κs. search needs) (λ c κs. search needs)
-    (λ c κs. search needs) (λ c κs. search needs) (λ c κs. search needs) (λ c κs. search needs)
-    (λ c κs. search needs) (λ c. search needs) returns (λ c. search needs) returns-2)
+    (λ c κs. search needs) (λ c κs. search needs) (λ c. search needs) returns (λ c. search needs) returns-2)

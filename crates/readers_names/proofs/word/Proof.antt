@@ -2,26 +2,25 @@
 -- Its calls are put together as its plan is. Assumes nothing.
 use Rattle.readers_core.proofs.Frames.{frame-by}
 use Rattle.readers_core.proofs.Sequence.{_▸_}
+use Rattle.readers_core.proofs.Shapes.{leaves}
+use Rattle.readers_core.specs.Reading.{all-recorded, none-recorded}
 use borrow.Author.Needs.{needs}
 use Rattle.readers_names.proofs.word.Statement.{statement}
 use Rattle.readers_names.proofs.word.Tie as tie
 
 returns : tie.Need-returns
+unfolding leaves all-recorded none-recorded
 returns c =
-    let args = c .before .before .before .before .before .before .before .before .args in
-    let enter = c .before .before .before .before .before .enter in
+    let args = c .before .before .before .before .before .before .before .args in
     let take = c .before .before .before .before .take in
-    let leave = c .before .before .leave in
+    let node = c .before .before .node in
     record {
       reads =
           λ q. record {
             at-any =
-                λ d. frame-by (args .rule) q (enter .ensures)
-                ((take .ensures .reads _ _ .in-any _) ▸ (leave .ensures .closes .wraps _ _)) (leave .ensures .joins);
+                λ d. frame-by (args .rule) q ((take .ensures .reads _ _ .in-any _ _) ▸ (node .ensures .wraps _ _ _ tt));
           };
     }
 
 pub word-spec : {M : Type 1} → statement M
-word-spec =
-    tie.close (tie.spec (λ c κs. search needs) (λ c κs. search needs) (λ c κs. search needs) (λ c. search needs)
-    returns)
+word-spec = tie.close (tie.spec (λ c κs. search needs) (λ c κs. search needs) (λ c. search needs) returns)

@@ -1,11 +1,10 @@
 -- `further` reads the rest of a list while a comma stands ahead.
 -- The part read so far as a continuation; what is left to read falls. Assumes nothing.
-use Rattle.grammar.specs.Depth.{depth}
 use Rattle.prediction.specs.Plan.{call, seq, token}
 use Rattle.readers_core.proofs.Choosing.{Knows, among, except, is-over}
 use Rattle.readers_core.proofs.Repetition.{Far, falls, far-here, far-more, far-over, remaining, repeats}
 use Rattle.readers_core.proofs.Sequence.{_▸_}
-use Rattle.readers_core.specs.declared.Reading.{Reading}
+use Prim.Native.Nat.{ℕ}
 use borrow.Author.Needs.{needs}
 use lib.ListN.{length}
 use mathlib.Core.List.{[], _∷_}
@@ -14,12 +13,12 @@ use Rattle.readers_operations.proofs.further.Statement.{statement}
 use Rattle.readers_operations.proofs.further.Tie as tie
 
 abbrev Inv-loop : tie.InvT-loop
-Inv-loop tokens tree₀ depth rule t₀ tree t =
+Inv-loop tokens tree₀ s depth rule t₀ tree t =
     (length tree ≡ length tree₀) ×
-    ((start : Reading) → Far tokens depth start (seq (token 68) (call rule)) (t₀, tree₀) (t, tree))
+    ((start : ℕ) → Far tokens depth start (seq (token 68) (call rule)) (s, tree₀) (t, tree))
 
 abbrev μ-loop : tie.MeasureT-loop
-μ-loop tokens tree₀ depth rule t₀ tree t = remaining tokens t
+μ-loop tokens tree₀ s depth rule t₀ tree t = remaining tokens t
 
 loop-holds : tie.Need-loop-holds Inv-loop μ-loop
 loop-holds c = (refl, λ start. far-here)
@@ -33,7 +32,7 @@ loop-less c =
     let take = c .before .before .before .before .take in
     let item = c .before .before .item in
     falls {start = (loop .t)} (among (68 ∷ [])) (next-kind .ensures) (if1 .taken) tt
-    ((take .ensures .reads _ _ .in-any _) ▸ (item .ensures .in-any _))
+    (λ hs. (take .ensures .reads _ _ .in-any _ _) ▸ (item .ensures .in-any _ _))
 
 loop-again : tie.Need-loop-again Inv-loop μ-loop
 unfolding Knows repeats is-over
@@ -45,7 +44,7 @@ loop-again c =
     let item = c .before .before .item in (
       (item .kept .1 .0) ∙ (loop .inv .0),
       λ start. far-more (among (68 ∷ [])) (next-kind .ensures) (if1 .taken) tt
-          ((take .ensures .reads _ _ .in-any _) ▸ (item .ensures .in-any _)) ((loop .inv .1) start),
+          (λ hs. (take .ensures .reads _ _ .in-any _ _) ▸ (item .ensures .in-any _ _)) ((loop .inv .1) start),
     )
 
 returns : tie.Need-returns Inv-loop μ-loop
@@ -54,8 +53,8 @@ returns c =
     let loop = c .before .before .loop in
     let next-kind = c .before .next-kind in
     record {
-      in-any = λ start. far-over (except ((68 ∷ []) ∷ [])) (next-kind .ensures) (tt, (c .if1 .left)) tt
-          ((loop .inv .1) start);
+      in-any = λ start hs. far-over (except ((68 ∷ []) ∷ [])) (next-kind .ensures) (tt, (c .if1 .left)) tt
+          ((loop .inv .1) start) hs;
     }
 
 pub further-spec : {M : Type 1} → statement M

@@ -5,18 +5,17 @@ use Rattle.prediction.specs.Plan.{seq, token}
 use Rattle.readers_core.proofs.Choosing.{Knows, among, except, is-over}
 use Rattle.readers_core.proofs.Repetition.{Far, falls, far-here, far-more, far-over, remaining, repeats}
 use Rattle.readers_core.proofs.Sequence.{_▸_}
-use Rattle.readers_core.specs.declared.Reading.{Reading}
 use borrow.Author.Needs.{needs}
 use mathlib.Core.List.{List, [], _∷_}
 use Rattle.readers_operations.proofs.further_strings.Statement.{statement}
 use Rattle.readers_operations.proofs.further_strings.Tie as tie
 
 abbrev Inv-loop : tie.InvT-loop
-Inv-loop tokens t₀ t = (d : ℕ) (w : List ℕ) (start : Reading) → Far tokens d start (seq (token 68) (token 7)) (t₀, w)
+Inv-loop tokens s t₀ t = (d : ℕ) (w : List ℕ) (start : ℕ) → Far tokens d start (seq (token 68) (token 7)) (s, w)
     (t, w)
 
 abbrev μ-loop : tie.MeasureT-loop
-μ-loop tokens t₀ t = remaining tokens t
+μ-loop tokens s t₀ t = remaining tokens t
 
 loop-holds : tie.Need-loop-holds Inv-loop μ-loop
 loop-holds c = λ d w start. far-here
@@ -29,7 +28,7 @@ loop-less c =
     let if1 = c .before .before .if1 in
     let take = c .before .take in
     falls {start = (loop .t)} (among (68 ∷ [])) (next-kind .ensures) (if1 .taken) tt
-    (((take .ensures .reads) 0 [] .in-any _) ▸ ((c .take2 .ensures .reads) 0 [] .in-any _))
+    (λ hs. ((take .ensures .reads) 0 [] .in-any _ _) ▸ ((c .take2 .ensures .reads) 0 [] .in-any _ _))
 
 loop-again : tie.Need-loop-again Inv-loop μ-loop
 unfolding Knows repeats is-over
@@ -39,7 +38,7 @@ loop-again c =
     let if1 = c .before .before .if1 in
     let take = c .before .take in
     λ d w start. far-more (among (68 ∷ [])) (next-kind .ensures) (if1 .taken) tt
-    ((take .ensures .reads _ _ .in-any _) ▸ (c .take2 .ensures .reads _ _ .in-any _)) ((loop .inv) d w start)
+    (λ hs. (take .ensures .reads _ _ .in-any _ _) ▸ (c .take2 .ensures .reads _ _ .in-any _ _)) ((loop .inv) d w start)
 
 returns : tie.Need-returns Inv-loop μ-loop
 unfolding Knows repeats is-over
@@ -49,8 +48,8 @@ returns c =
     record {
       reads =
           λ d w. record {
-            in-any = λ start. far-over (except ((68 ∷ []) ∷ [])) (next-kind .ensures) (tt, (c .if1 .left)) tt
-                ((loop .inv) d w start);
+            in-any = λ start hs. far-over (except ((68 ∷ []) ∷ [])) (next-kind .ensures) (tt, (c .if1 .left)) tt
+                ((loop .inv) d w start) hs;
           };
     }
 

@@ -1,7 +1,6 @@
 -- `list` reads a list by its plan.
 -- Its calls are put together as its plan is. Assumes nothing.
 use Rattle.readers_core.proofs.Sequence.{_▸_}
-use Rattle.readers_operations.specs.Plans.{further}
 use borrow.Author.Needs.{needs}
 use Rattle.readers_operations.proofs.list.Statement.{statement}
 use Rattle.readers_operations.proofs.list.Tie as tie
@@ -10,7 +9,7 @@ returns : tie.Need-returns
 returns c =
     let item = c .before .before .before .before .before .before .item in
     let further = c .before .before .further in
-    record { in-any = λ start. (item .ensures .in-any _) ▸ (further .ensures .in-any _) }
+    record { in-any = λ start hs. (item .ensures .in-any _ _) ▸ (further .ensures .in-any _ _) }
 
 pub list-spec : {M : Type 1} → statement M
 list-spec = tie.close (tie.spec (λ c κs. search needs) (λ c κs. search needs) (λ c. search needs) returns)

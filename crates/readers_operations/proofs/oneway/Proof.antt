@@ -21,9 +21,8 @@ returns c =
     record {
       at-any =
           λ d. record {
-            in-any =
-                λ start. chosen (among (44 ∷ [])) (next-kind .ensures) (if1 .taken)
-                ((word .ensures .reads) refl .at-any d .in-any start);
+            in-any = λ start hs. chosen (among (44 ∷ [])) (next-kind .ensures) (if1 .taken)
+                ((word .ensures .reads) refl .at-any d .in-any start hs);
           };
     }
 
@@ -34,11 +33,10 @@ returns-2 c =
     record {
       at-any =
           λ d. record {
-            in-any = λ start. chosen (except ((44 ∷ []) ∷ [])) (next-kind .ensures) (tt, (c .if1 .left))
+            in-any = λ start hs. chosen (except ((44 ∷ []) ∷ [])) (next-kind .ensures) (tt, (c .if1 .left))
                 skipped;
           };
     }
 
 pub oneway-spec : {M : Type 1} → statement M
-oneway-spec =
-    tie.close (tie.spec (λ c κs. search needs) (λ c κs. search needs) (λ c. search needs) returns returns-2)
+oneway-spec = tie.close (tie.spec (λ c κs. search needs) (λ c κs. search needs) (λ c. search needs) returns returns-2)

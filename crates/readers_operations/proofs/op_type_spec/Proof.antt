@@ -1,13 +1,13 @@
 -- `op_type_spec` reads rule 89: "void" in a frame of its own, or a type, whose node is passed on.
 -- The kind ahead tells which. Assumes nothing.
-use Rattle.grammar.specs.Record.{recorded}
 use Rattle.prediction.specs.Check.{table}
 use Rattle.prediction.specs.Columns.{plan-at, round}
 use Rattle.prediction.specs.IdlPlans.{idl-prediction}
-use Rattle.readers_core.proofs.Chain.{passed-on, single}
+use Rattle.readers_core.proofs.Frames.{frame-on, passed-on}
 use Rattle.readers_core.proofs.Choosing.{Knows, among, choose, except}
-use Rattle.readers_core.proofs.Frames.{frame-on}
 use Rattle.readers_core.proofs.Sequence.{_▸_}
+use Rattle.readers_core.proofs.Shapes.{leaves}
+use Rattle.readers_core.specs.Reading.{all-recorded, none-recorded}
 use borrow.Author.Needs.{needs}
 use mathlib.Core.List.{[], _∷_}
 use mathlib.Core.Path.{refl}
@@ -15,18 +15,17 @@ use Rattle.readers_operations.proofs.op_type_spec.Statement.{statement}
 use Rattle.readers_operations.proofs.op_type_spec.Tie as tie
 
 returns : tie.Need-returns
-unfolding table round plan-at idl-prediction choose Knows single recorded
+unfolding table round plan-at idl-prediction choose Knows leaves all-recorded none-recorded
 returns c =
-    let next-kind = c .before .before .before .before .before .before .before .next-kind in
-    let if1 = c .before .before .before .before .before .before .if1 in
-    let enter = c .before .before .before .before .before .enter in
+    let next-kind = c .before .before .before .before .before .before .next-kind in
+    let if1 = c .before .before .before .before .before .if1 in
     let take = c .before .before .before .before .take in
-    let leave = c .before .before .leave in
-    frame-on 89 (among (61 ∷ [])) (next-kind .ensures) (if1 .taken) (enter .ensures)
-    ((take .ensures .reads _ _ .in-any _) ▸ (leave .ensures .closes .wraps _ _)) (leave .ensures .joins)
+    let node = c .before .before .node in
+    frame-on 89 (among (61 ∷ [])) (next-kind .ensures) (if1 .taken)
+    ((take .ensures .reads _ _ .in-any _ _) ▸ (node .ensures .wraps _ _ _ tt))
 
 returns-2 : tie.Need-returns-2
-unfolding table round plan-at idl-prediction choose Knows single recorded
+unfolding table round plan-at idl-prediction choose Knows leaves all-recorded none-recorded
 returns-2 c =
     let next-kind = c .before .before .before .before .before .next-kind in
     let if1 = c .before .before .before .before .if1 in
@@ -35,5 +34,5 @@ returns-2 c =
 
 pub op-type-spec-spec : {M : Type 1} → statement M
 op-type-spec-spec =
-    tie.close (tie.spec (λ c κs. search needs) (λ c κs. search needs) (λ c κs. search needs)
-    (λ c κs. search needs) (λ c. search needs) returns (λ c κs. search needs) (λ c. search needs) returns-2)
+    tie.close (tie.spec (λ c κs. search needs) (λ c κs. search needs) (λ c κs. search needs) (λ c. search needs)
+    returns (λ c κs. search needs) (λ c. search needs) returns-2)

@@ -5,26 +5,26 @@ use Rattle.prediction.specs.Columns.{plan-at, round}
 use Rattle.prediction.specs.IdlPlans.{idl-prediction}
 use Rattle.readers_core.proofs.Frames.{frame}
 use Rattle.readers_core.proofs.Sequence.{_▸_}
+use Rattle.readers_core.proofs.Shapes.{leaves}
+use Rattle.readers_core.specs.Reading.{all-recorded, none-recorded}
 use borrow.Author.Needs.{needs}
 use mathlib.Core.Path.{refl}
 use Rattle.readers_operations.proofs.param_dcl.Statement.{statement}
 use Rattle.readers_operations.proofs.param_dcl.Tie as tie
 
 returns : tie.Need-returns
-unfolding table round plan-at idl-prediction
+unfolding table round plan-at idl-prediction leaves all-recorded none-recorded
 returns c =
-    let leave = c .before .before .leave in
+    let param-attribute =
+    c .before .before .before .before .before .before .before .before .before .before .before .before .before .before .param-attribute in
+    let param-type-spec =
+    c .before .before .before .before .before .before .before .before .before .before .param-type-spec in
     let word = c .before .before .before .before .before .before .word in
-    let at-param-type-spec = c .before .before .before .before .before .before .before .before .before .before in
-    let param-type-spec = at-param-type-spec .param-type-spec in
-    let param-attribute = at-param-type-spec .before .before .before .before .param-attribute in
-    let at-enter = at-param-type-spec .before .before .before .before .before .before in
-    let enter = at-enter .enter in
-    frame 91 (enter .ensures)
-    ((param-attribute .ensures .at-any _ .in-any _) ▸ (param-type-spec .ensures .in-any _) ▸
-    ((word .ensures .reads) refl .at-any _ .in-any _) ▸ (leave .ensures .closes .wraps _ _)) (leave .ensures .joins)
+    let node = c .before .before .node in
+    frame 91 ((param-attribute .ensures .at-any _ .in-any _ _) ▸ (param-type-spec .ensures .in-any _ _) ▸
+    ((word .ensures .reads) refl .at-any _ .in-any _ _) ▸ (node .ensures .wraps _ _ _ tt))
 
 pub param-dcl-spec : {M : Type 1} → statement M
 param-dcl-spec =
     tie.close (tie.spec (λ c κs. search needs) (λ c κs. search needs) (λ c κs. search needs)
-    (λ c κs. search needs) (λ c κs. search needs) (λ c. search needs) returns)
+    (λ c κs. search needs) (λ c. search needs) returns)

@@ -5,21 +5,18 @@ use Rattle.prediction.specs.Columns.{plan-at, round}
 use Rattle.prediction.specs.IdlPlans.{idl-prediction}
 use Rattle.readers_core.proofs.Frames.{frame}
 use Rattle.readers_core.proofs.Sequence.{_▸_}
-use Rattle.readers_operations.specs.Plans.{parameters}
+use Rattle.readers_core.proofs.Shapes.{leaves}
+use Rattle.readers_core.specs.Reading.{all-recorded, none-recorded}
 use borrow.Author.Needs.{needs}
 use Rattle.readers_operations.proofs.parameter_dcls.Statement.{statement}
 use Rattle.readers_operations.proofs.parameter_dcls.Tie as tie
 
 returns : tie.Need-returns
-unfolding table round plan-at idl-prediction
+unfolding table round plan-at idl-prediction leaves all-recorded none-recorded
 returns c =
-    let enter = c .before .before .before .before .before .before .before .before .enter in
     let parameters = c .before .before .before .before .before .before .parameters in
-    let leave = c .before .before .leave in
-    frame 90 (enter .ensures) ((parameters .ensures .in-any _) ▸ (leave .ensures .closes .wraps _ _))
-    (leave .ensures .joins)
+    let node = c .before .before .node in
+    frame 90 ((parameters .ensures .in-any _ _) ▸ (node .ensures .wraps _ _ _ tt))
 
 pub parameter-dcls-spec : {M : Type 1} → statement M
-parameter-dcls-spec =
-    tie.close (tie.spec (λ c κs. search needs) (λ c κs. search needs) (λ c κs. search needs) (λ c. search needs)
-    returns)
+parameter-dcls-spec = tie.close (tie.spec (λ c κs. search needs) (λ c κs. search needs) (λ c. search needs) returns)

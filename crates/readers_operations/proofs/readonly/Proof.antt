@@ -16,8 +16,8 @@ returns c =
     record {
       reads =
           λ d w. record {
-            in-any = λ start. chosen (among (49 ∷ [])) (next-kind .ensures) (if1 .taken)
-                (c .take .ensures .reads _ _ .in-any _);
+            in-any = λ start hs. chosen (among (49 ∷ [])) (next-kind .ensures) (if1 .taken)
+                (c .take .ensures .reads _ _ .in-any _ _);
           };
     }
 
@@ -28,7 +28,7 @@ returns-2 c =
     record {
       reads =
           λ d w. record
-          { in-any = λ start. chosen (except ((49 ∷ []) ∷ [])) (next-kind .ensures) (tt, (c .if1 .left)) skipped };
+          { in-any = λ start hs. chosen (except ((49 ∷ []) ∷ [])) (next-kind .ensures) (tt, (c .if1 .left)) skipped };
     }
 
 pub readonly-spec : {M : Type 1} → statement M

@@ -2,21 +2,23 @@
 -- The remaining depth falls at the "{" of a module; below it stand definitions, a definition, what is defined. Assumes nothing.
 use Rattle.prediction.specs.Check.{table}
 use Rattle.prediction.specs.Columns.{plan-at, round}
-use Rattle.prediction.specs.Equivalence.{opened}
 use Rattle.prediction.specs.IdlPlans.{idl-prediction}
 use Rattle.prediction.specs.Plan.{call}
 use Rattle.readers_core.proofs.Choosing.{Knows, among, choose, except, is-over}
 use Rattle.readers_core.proofs.Frames.{chosen, frame}
 use Rattle.readers_core.proofs.Groups.{grouped, level, shut-out}
-use Rattle.readers_core.proofs.Repetition.{Far, far-here, far-more, far-over, remaining, repeats}
-use Rattle.readers_core.proofs.Sequence.{_▸_}
-use Rattle.readers_core.specs.declared.Reading.{Reading}
+use Rattle.readers_core.proofs.Repetition.{Begun, begun-here, begun-more, begun-over, falls-behind, remaining, repeats}
+use Rattle.readers_core.proofs.Sequence.{_▸_, stays}
 use Rattle.readers_specification.specs.Plans.{definition-starts}
 use Rattle.readers_structs.proofs.Starts.{is-in, is-out}
+use Rattle.readers_core.proofs.Shapes.{leaves}
+use Rattle.readers_core.specs.Reading.{all-recorded, none-recorded}
+use Rattle.readers_core.proofs.Views.{going-if, stopped-if}
 use borrow.Author.Needs.{needs}
 use lib.ListN.{length}
 use mathlib.Core.List.{[], _∷_}
-use mathlib.Core.Path.{_∙_, _≡_, refl}
+use mathlib.Core.Bool.{Bool, true, false, not}
+use mathlib.Core.Path.{_∙_, _≡_, ap, refl}
 use native.Mathlib.Omega.{arith}
 use Prim.Native.Nat.{_*_, _+_, _<_, ℕ}
 use borrow.Fn.Kinds.{In}
@@ -33,8 +35,7 @@ use Rattle.readers_specification.proofs.+defined+definition+definitions
 use Rattle.readers_specification.proofs.module_definition.Reads as module-definition
 use Rattle.readers_specification.proofs.module_definition.Kinds as module-definition-kinds
 use Rattle.readers_specification.proofs.+defined+definition+definitions+module_definition.Lts-module_definition as module-definition-lts
-use Rattle.readers_core.proofs.enter.Reads as enter-reads
-use Rattle.readers_core.proofs.leave.Reads as leave-reads
+use Rattle.readers_core.proofs.node.Reads as node-reads
 use Rattle.readers_core.proofs.next_kind.Reads as next-kind-reads
 use Rattle.readers_core.proofs.open.Reads as open-reads
 use Rattle.readers_core.proofs.take.Reads as take-reads
@@ -42,7 +43,7 @@ use Rattle.readers_specification.proofs.other_definition.Reads as other
 use Rattle.readers_specification.proofs.starts_definition.Reads as starts-definition-reads
 use Rattle.readers_specification.proofs.+defined+definition+definitions+module_definition.{statement}
 use Rattle.readers_specification.proofs.+defined+definition+definitions+module_definition.Tie.{close}
-use Rattle.readers_core.proofs.Repetition as repetition
+use Rattle.readers_core.proofs.has_stopped.Reads as has-stopped-reads
 
 abbrev μ-defined : Measures 2 defined-kinds.ps ℕ
 μ-defined κs a = 4 * a .1 .1 .1 .1 .0 + 1
@@ -113,37 +114,34 @@ defined-returns t c =
     let next-kind = c .before .before .before .before .before .next-kind in
     let match-on = c .before .before .before .before .match in
     let module-definition = c .before .before .module-definition in
-    chosen (among (41 ∷ [])) (next-kind .ensures) (match-on .keys1) (module-definition .ensures .in-any _)
+    record {
+      of-any = λ hs. chosen (among (41 ∷ [])) (next-kind .ensures) (match-on .keys1)
+          (module-definition .ensures .in-any _ _);
+    }
 
 defined-returns-2 : (t : ℕ) → defined-lts.Need-returns-2 (defined-claims t) (defined-at t) defined.Post
-unfolding table round plan-at idl-prediction choose Knows
 defined-returns-2 t c =
     let other-definition = c .before .before .other-definition in
-    chosen (except []) refl tt (other-definition .ensures)
+    other-definition .ensures
 
 -- what is defined, and ";"
 abbrev definition-claims : ℕ → definition-lts.Claims
 definition-claims t = (
-  enter-reads.Asked,
-  enter-reads.Learnt,
   defined-below t,
   defined.Post,
   take-reads.Asked,
   take-reads.Learnt,
-  leave-reads.Asked,
-  leave-reads.Learnt,
+  node-reads.Asked,
+  node-reads.Learnt,
 )
 
 definition-returns : (t : ℕ) → definition-lts.Need-returns (definition-claims t) (definition-at t) definition.Post
-unfolding table round plan-at idl-prediction choose Knows
+unfolding table round plan-at idl-prediction leaves all-recorded none-recorded
 definition-returns t c =
-    let enter = c .before .before .before .before .before .before .before .before .before .enter in
     let defined = c .before .before .before .before .before .before .before .defined in
     let take = c .before .before .before .before .take in
-    let leave = c .before .before .leave in
-    frame 2 (enter .ensures)
-    ((defined .ensures) ▸ (take .ensures .reads _ _ .in-any _) ▸ (leave .ensures .closes .wraps _ _))
-    (leave .ensures .joins)
+    let node = c .before .before .node in
+    frame 2 ((defined .ensures .of-any _) ▸ (take .ensures .reads _ _ .in-any _ _) ▸ (node .ensures .wraps _ _ _ tt))
 
 -- as long as a definition may begin
 abbrev definitions-claims : ℕ → definitions-lts.Claims
@@ -156,131 +154,162 @@ definitions-claims t = (
   starts-definition-reads.Learnt,
 )
 
+-- the test turned round
+unnot : (b : Bool) {x : Bool} → not b ≡ x → b ≡ not x
+unnot true e = ap (λ (y : Bool). not y) e
+unnot false e = ap (λ (y : Bool). not y) e
+
 abbrev definitions-Inv-loop : definitions-lts.InvT-loop
-definitions-Inv-loop tokens tree₀ d t₀ tree t =
-    (length tree ≡ length tree₀) × ((start : Reading) → Far tokens d start (call 2) (t₀, tree₀) (t, tree))
+definitions-Inv-loop tokens tree₀ s d t₀ tree t =
+    (length tree ≡ length tree₀) × ((start : ℕ) → Begun tokens d start (call 2) (s, tree₀) (t, tree))
 
 abbrev definitions-μ-loop : definitions-lts.MeasureT-loop
-definitions-μ-loop tokens tree₀ d t₀ tree t = remaining tokens t
+definitions-μ-loop tokens tree₀ s d t₀ tree t = remaining tokens t
 
 definitions-loop-holds : (t : ℕ) → definitions-lts.Need-loop-holds (definitions-claims t) (definitions-at t)
     definitions.Post definitions-Inv-loop definitions-μ-loop
-definitions-loop-holds t c = (refl, λ start. far-here)
+definitions-loop-holds t c = (refl, λ start. begun-here)
+
+definitions-returns : (t : ℕ) → definitions-lts.Need-returns (definitions-claims t) (definitions-at t) definitions.Post
+    definitions-Inv-loop definitions-μ-loop
+unfolding table round plan-at idl-prediction Knows repeats is-over
+definitions-returns t c =
+    let loop = c .before .before .before .before .before .before .before .loop in
+    let definition = c .before .before .before .before .before .definition in
+    let next-kind = c .before .before .next-kind in
+    let starts-definition = c .before .starts-definition in
+    record {
+      in-any = λ start. begun-over (except (definition-starts ∷ [])) (next-kind .ensures)
+          (is-out definition-starts _ (starts-definition .ensures) (unnot _ (c .if1 .taken))) tt
+          (λ hs. definition .ensures .in-any _ _) ((loop .inv .1) start);
+    }
 
 definitions-loop-less : (t : ℕ) → definitions-lts.Need-loop-less (definitions-claims t) (definitions-at t)
     definitions.Post definitions-Inv-loop definitions-μ-loop
 unfolding table round plan-at idl-prediction Knows repeats is-over
 definitions-loop-less t c =
     let loop = c .before .before .before .before .before .before .before .loop in
-    let next-kind = c .before .before .before .before .before .before .next-kind in
-    let starts-definition = c .before .before .before .before .before .starts-definition in
-    let if1 = c .before .before .before .before .if1 in
-    let definition2 = c .before .before .definition2 in
-    repetition.falls {start = (loop .t)} (among definition-starts) (next-kind .ensures)
-    (is-in definition-starts _ (starts-definition .ensures) (if1 .taken)) tt (definition2 .ensures .in-any _)
+    let definition = c .before .before .before .before .before .definition in
+    let next-kind = c .before .before .next-kind in
+    let starts-definition = c .before .starts-definition in
+    falls-behind {start = (loop .t)} (among definition-starts) (next-kind .ensures)
+    (is-in definition-starts _ (starts-definition .ensures) (unnot _ (c .if1 .left))) tt (λ hs. definition .ensures .in-any _ _)
 
 definitions-loop-again : (t : ℕ) → definitions-lts.Need-loop-again (definitions-claims t) (definitions-at t)
     definitions.Post definitions-Inv-loop definitions-μ-loop
 unfolding table round plan-at idl-prediction Knows repeats is-over
 definitions-loop-again t c =
     let loop = c .before .before .before .before .before .before .before .loop in
-    let next-kind = c .before .before .before .before .before .before .next-kind in
-    let starts-definition = c .before .before .before .before .before .starts-definition in
-    let if1 = c .before .before .before .before .if1 in
-    let definition2 = c .before .before .definition2 in (
-      (definition2 .kept .1 .0) ∙ (loop .inv .0),
-      λ start. far-more (among definition-starts) (next-kind .ensures)
-          (is-in definition-starts _ (starts-definition .ensures) (if1 .taken)) tt (definition2 .ensures .in-any _)
-          ((loop .inv .1) start),
-    )
-
-definitions-returns : (t : ℕ) → definitions-lts.Need-returns (definitions-claims t) (definitions-at t) definitions.Post
-    definitions-Inv-loop definitions-μ-loop
-unfolding table round plan-at idl-prediction Knows repeats is-over
-definitions-returns t c =
-    let definition = c .before .before .before .before .before .before .definition in
-    let loop = c .before .before .before .loop in
+    let definition = c .before .before .before .before .before .definition in
     let next-kind = c .before .before .next-kind in
-    let starts-definition = c .before .starts-definition in
-    record {
-      in-any = λ start. (definition .ensures .in-any _) ▸ far-over (except (definition-starts ∷ []))
-          (next-kind .ensures) (is-out definition-starts _ (starts-definition .ensures) (c .if1 .left)) tt
-          ((loop .inv .1) start);
-    }
+    let starts-definition = c .before .starts-definition in (
+      (definition .kept .1 .0) ∙ (loop .inv .0),
+      λ start. begun-more (among definition-starts) (next-kind .ensures)
+          (is-in definition-starts _ (starts-definition .ensures) (unnot _ (c .if1 .left))) tt
+          (λ hs. definition .ensures .in-any _ _) ((loop .inv .1) start),
+    )
 
 -- between the marks, definitions at one level of depth less
 abbrev module-definition-claims : ℕ → module-definition-lts.Claims
 module-definition-claims t = (
-  enter-reads.Asked,
-  enter-reads.Learnt,
   take-reads.Asked,
   take-reads.Learnt,
   open-reads.Asked,
   open-reads.Learnt,
-  leave-reads.Asked,
-  leave-reads.Learnt,
+  has-stopped-reads.Asked,
+  has-stopped-reads.Learnt,
   definitions-below t,
   definitions.Post,
+  node-reads.Asked,
+  node-reads.Learnt,
 )
 
 module-definition-returns : (t : ℕ) → module-definition-lts.Need-returns (module-definition-claims t)
     (module-definition-at t) module-definition.Post
 unfolding table round plan-at idl-prediction
 module-definition-returns t c =
-    let enter = c .before .before .before .before .before .before .before .before .before .enter in
-    let take = c .before .before .before .before .before .before .before .before .take in
-    let take2 = c .before .before .before .before .before .before .before .take2 in
-    let opened = c .before .before .before .before .before .before .«open» in
-    let leave = c .before .before .leave in
-    frame 3 (enter .ensures)
-    ((take .ensures .reads _ _ .in-any _) ▸ (take2 .ensures .reads _ _ .in-any _) ▸ shut-out (opened .ensures)
-    (λ z. omega arith) ▸ (leave .ensures .closes .wraps _ _)) (leave .ensures .joins)
+    let take = c .before .before .before .before .take in
+    let take2 = c .before .before .before .take2 in
+    let opening = c .before .before .«open» in
+    let has-stopped = c .before .has-stopped in
+    let stop = stopped-if (opening .result) (has-stopped .ensures) (c .if1 .taken) in
+    frame 3 ((take .ensures .reads _ _ .in-any _ _) ▸ (take2 .ensures .reads _ _ .in-any _ _) ▸
+    shut-out (opening .ensures) stop ▸ stays stop)
 
 module-definition-sub-definitions : (t : ℕ) → module-definition-lts.Need-sub-definitions (module-definition-claims t)
     (module-definition-at t) module-definition.Post
 module-definition-sub-definitions t c =
-    let opened = c .before .before .before .«open» in
-    let h = level (opened .ensures) (omega arith) in omega arith
+    let opening = c .before .before .before .«open» in
+    let has-stopped = c .before .before .has-stopped in
+    let if1 = c .before .if1 in
+    let h = level (opening .ensures) (going-if (opening .result) (has-stopped .ensures) (if1 .left)) in
+    omega arith
 
 module-definition-definitions-requires : (t : ℕ) →
     module-definition-lts.Need-definitions-requires (module-definition-claims t) (module-definition-at t)
     module-definition.Post
 module-definition-definitions-requires t c κs =
-    let opened = c .before .before .before .«open» in
-    let h = level (opened .ensures) (omega arith) in omega arith
+    let opening = c .before .before .before .«open» in
+    let has-stopped = c .before .before .has-stopped in
+    let if1 = c .before .if1 in
+    let h = level (opening .ensures) (going-if (opening .result) (has-stopped .ensures) (if1 .left)) in
+    omega arith
 
 module-definition-returns-2 : (t : ℕ) → module-definition-lts.Need-returns-2 (module-definition-claims t)
     (module-definition-at t) module-definition.Post
-unfolding table round plan-at idl-prediction
+unfolding table round plan-at idl-prediction leaves all-recorded none-recorded
 module-definition-returns-2 t c =
-    let enter = c .before .before .before .before .before .before .before .before .before .before .before .before .before .before .enter in
-    let take = c .before .before .before .before .before .before .before .before .before .before .before .before .before .take in
-    let take2 = c .before .before .before .before .before .before .before .before .before .before .before .before .take2 in
-    let opened = c .before .before .before .before .before .before .before .before .before .before .before .«open» in
+    let take =
+    c .before .before .before .before .before .before .before .before .before .before .before .before .before .take in
+    let take2 =
+    c .before .before .before .before .before .before .before .before .before .before .before .before .take2 in
+    let opening = c .before .before .before .before .before .before .before .before .before .before .before .«open» in
+    let has-stopped = c .before .before .before .before .before .before .before .before .before .before .has-stopped in
     let if1 = c .before .before .before .before .before .before .before .before .before .if1 in
     let definitions = c .before .before .before .before .before .before .before .definitions in
     let take3 = c .before .before .before .before .take3 in
-    let leave2 = c .before .before .leave2 in
-    frame 3 (enter .ensures)
-    ((take .ensures .reads _ _ .in-any _) ▸ (take2 .ensures .reads _ _ .in-any _) ▸ grouped (opened .ensures)
-    (if1 .left) ((definitions .ensures .in-any _) ▸ (take3 .ensures .reads _ _ .in-any _)) ▸
-    (leave2 .ensures .closes .wraps _ _)) (leave2 .ensures .joins)
+    let node = c .before .before .node in
+    frame 3 ((take .ensures .reads _ _ .in-any _ _) ▸ (take2 .ensures .reads _ _ .in-any _ _) ▸ grouped (opening .ensures)
+    (going-if (opening .result) (has-stopped .ensures) (if1 .left))
+    ((definitions .ensures .in-any _ _) ▸ (take3 .ensures .reads _ _ .in-any _ _)) ▸ (node .ensures .wraps _ _ _ tt))
 
 pub +defined+definition+definitions+module-definition-spec : {M : Type 1} → statement M
 +defined+definition+definitions+module-definition-spec =
     close μ-defined μ-definition μ-definitions μ-module-definition
-    (λ t. defined-lts.spec (defined-claims t) (defined-at t) defined.Post (λ c κs. search needs)
-    (λ c κs. search needs) (defined-other-definition-requires t) (λ c. search needs) (defined-returns t)
-    (λ c. search needs) (defined-returns-2 t))
-    (λ t. definition-lts.spec (definition-claims t) (definition-at t) definition.Post (λ c κs. search needs)
-    (λ c κs. search needs) (λ c κs. search needs) (λ c κs. search needs) (λ c. search needs)
+    (λ t. defined-lts.spec (defined-claims t) (defined-at t) defined.Post
+    (λ c κs. search needs)
+    (λ c κs. search needs)
+    (defined-other-definition-requires t)
+    (λ c. search needs)
+    (defined-returns t)
+    (λ c. search needs)
+    (defined-returns-2 t))
+    (λ t. definition-lts.spec (definition-claims t) (definition-at t) definition.Post
+    (λ c κs. search needs)
+    (λ c κs. search needs)
+    (λ c κs. search needs)
+    (λ c. search needs)
     (definition-returns t))
-    (λ t. definitions-lts.spec (definitions-claims t) (definitions-at t) definitions.Post definitions-Inv-loop
-    definitions-μ-loop (λ c κs. search needs) (definitions-loop-holds t) (λ c κs. search needs)
-    (λ c κs. search needs) (λ c κs. search needs) (definitions-loop-less t) (definitions-loop-again t)
-    (λ c. search needs) (definitions-returns t))
+    (λ t. definitions-lts.spec (definitions-claims t) (definitions-at t) definitions.Post
+    definitions-Inv-loop
+    definitions-μ-loop
+    (definitions-loop-holds t)
+    (λ c κs. search needs)
+    (λ c κs. search needs)
+    (λ c κs. search needs)
+    (λ c. search needs)
+    (definitions-returns t)
+    (definitions-loop-less t)
+    (definitions-loop-again t))
     (λ t. module-definition-lts.spec (module-definition-claims t) (module-definition-at t) module-definition.Post
-    (λ c κs. search needs) (λ c κs. search needs) (λ c κs. search needs) (λ c κs. search needs)
-    (λ c κs. search needs) (λ c. search needs) (module-definition-returns t) (module-definition-sub-definitions t)
-    (module-definition-definitions-requires t) (λ c κs. search needs) (λ c κs. search needs) (λ c. search needs)
+    (λ c κs. search needs)
+    (λ c κs. search needs)
+    (λ c κs. search needs)
+    (λ c κs. search needs)
+    (module-definition-returns t)
+    (module-definition-sub-definitions t)
+    (module-definition-definitions-requires t)
+    (λ c κs. search needs)
+    (λ c κs. search needs)
+    (λ c. search needs)
     (module-definition-returns-2 t))

@@ -18,8 +18,10 @@ returns c =
     let next-kind = c .before .before .before .before .before .next-kind in
     let match-on = c .before .before .before .before .match in
     let interface = c .before .before .interface in
-    (take .ensures .reads _ _ .in-any _) ▸ chosen (among (38 ∷ [])) (next-kind .ensures) (match-on .keys1)
-    (interface .ensures)
+    record {
+      of-any = λ hs. (take .ensures .reads _ _ .in-any _ _) ▸ chosen (among (38 ∷ [])) (next-kind .ensures)
+          (match-on .keys1) (interface .ensures .of-any _);
+    }
 
 returns-2 : tie.Need-returns-2
 unfolding table round plan-at idl-prediction choose Knows
@@ -28,8 +30,10 @@ returns-2 c =
     let next-kind = c .before .before .before .before .before .next-kind in
     let match-on = c .before .before .before .before .match in
     let abstract-value = c .before .before .abstract-value in
-    (take .ensures .reads _ _ .in-any _) ▸ chosen (except ((38 ∷ []) ∷ [])) (next-kind .ensures) (match-on .rest)
-    (abstract-value .ensures)
+    record {
+      of-any = λ hs. (take .ensures .reads _ _ .in-any _ _) ▸ chosen (except ((38 ∷ []) ∷ [])) (next-kind .ensures)
+          (match-on .rest) (abstract-value .ensures .of-any _);
+    }
 
 pub abstract-definition-spec : {M : Type 1} → statement M
 abstract-definition-spec =

@@ -5,21 +5,18 @@ use Rattle.prediction.specs.Columns.{plan-at, round}
 use Rattle.prediction.specs.IdlPlans.{idl-prediction}
 use Rattle.readers_core.proofs.Frames.{frame}
 use Rattle.readers_interfaces.proofs.Lines.{_▸▸_, append}
-use Rattle.readers_specification.specs.Plans.{definitions}
+use Rattle.readers_core.proofs.Shapes.{leaves}
+use Rattle.readers_core.specs.Reading.{all-recorded, none-recorded}
 use borrow.Author.Needs.{needs}
 use Rattle.readers_specification.proofs.specification.Statement.{statement}
 use Rattle.readers_specification.proofs.specification.Tie as tie
 
 returns : tie.Need-returns
-unfolding table round plan-at idl-prediction append
+unfolding table round plan-at idl-prediction append leaves all-recorded none-recorded
 returns c =
-    let enter = c .before .before .before .before .before .before .before .before .enter in
     let definitions = c .before .before .before .before .before .before .definitions in
-    let leave = c .before .before .leave in
-    frame 1 (enter .ensures) ((definitions .ensures .in-any _) ▸▸ (leave .ensures .closes .wraps _ _))
-    (leave .ensures .joins)
+    let node = c .before .before .node in
+    frame 1 ((definitions .ensures .in-any _ _) ▸▸ (node .ensures .wraps _ _ _ tt))
 
 pub specification-spec : {M : Type 1} → statement M
-specification-spec =
-    tie.close (tie.spec (λ c κs. search needs) (λ c κs. search needs) (λ c κs. search needs) (λ c. search needs)
-    returns)
+specification-spec = tie.close (tie.spec (λ c κs. search needs) (λ c κs. search needs) (λ c. search needs) returns)

@@ -1,28 +1,26 @@
 -- Types hold members that hold types: type, struct, member and union readers call each other, each by its plan.
 -- Remaining depth falls at each opening mark, and else the measure by the reader's rank. Assumes nothing.
-use Rattle.grammar.specs.Depth.{depth, opening}
-use Rattle.grammar.specs.Record.{recorded}
 use Rattle.prediction.specs.Check.{table}
 use Rattle.prediction.specs.Columns.{plan-at, round}
 use Rattle.prediction.specs.IdlPlans.{idl-prediction}
 use Rattle.prediction.specs.Plan.{call}
-use Rattle.readers_core.proofs.Chain.{passed-on, single}
-use Rattle.readers_core.proofs.Choosing.{Knows, among, choose, except, is-over}
-use Rattle.readers_core.proofs.Frames.{frame}
+use Rattle.readers_core.proofs.Frames.{chosen, frame, passed-on}
+use Rattle.readers_core.proofs.Choosing.{Knows, among, choose, except, goes-on, is-over}
 use Rattle.readers_core.proofs.Groups.{grouped, level, shut-out}
-use Rattle.readers_core.proofs.Repetition.{Far, far-here, far-more, far-over, remaining, repeats}
-use Rattle.readers_core.proofs.Sequence.{_▸_}
-use Rattle.readers_core.specs.declared.Reading.{Reading}
+use Rattle.readers_core.proofs.Repetition.{Far, far-here, far-more, far-over, once-at-least, remaining, repeats}
+use Rattle.readers_core.proofs.Sequence.{_▸_, skipped, unrecorded}
 use Rattle.readers_structs.proofs.Starts.{is-in, is-out}
-use Rattle.readers_structs.specs.Plans.{case-starts, struct-body, switch-block, switch-head, type-starts}
-use Rattle.readers_structs.specs.Plans.{union-rest}
+use Rattle.readers_structs.specs.Plans.{case-starts, type-starts}
+use Rattle.readers_core.proofs.Views.{going-if, stopped-if}
+use Rattle.readers_core.proofs.Shapes.{leaves}
+use Rattle.readers_core.specs.Reading.{all-recorded, none-recorded}
 use borrow.Author.Needs.{needs}
 use lib.ListN.{length}
 use mathlib.Core.List.{[], _∷_}
 use mathlib.Core.Path.{_∙_, _≡_, refl}
 use native.Mathlib.Omega.{arith}
 use Rattle.readers_core.proofs.Repetition.{falls as turn-falls}
-use Prim.Native.Nat.{ℕ, _+_, _*_, _-_, _<_}
+use Prim.Native.Nat.{ℕ, _+_, _*_, _<_}
 use borrow.Fn.Kinds.{In}
 use borrow.Fn.PlainCycle.{Measures, is, falls, and}
 use Rattle.readers_structs.proofs.case_clause.Reads as case-clause
@@ -67,10 +65,6 @@ use Rattle.readers_structs.proofs.+case_clause+constr_type_spec+element
 use Rattle.readers_structs.proofs.union_type.Reads as union-type
 use Rattle.readers_structs.proofs.union_type.Kinds as union-type-kinds
 use Rattle.readers_structs.proofs.+case_clause+constr_type_spec+element_spec+further_cases+further_members+member+member_list+struct_body+struct_type+switch_block+switch_body+type_spec+union_rest+union_type.Lts-union_type as union-type-lts
-use Rattle.readers_core.proofs.close.Reads as close-reads
-use Rattle.readers_core.proofs.enter.Reads as enter-reads
-use Rattle.readers_core.proofs.join.Reads as join-reads
-use Rattle.readers_core.proofs.leave.Reads as leave-reads
 use Rattle.readers_core.proofs.next_kind.Reads as next-kind-reads
 use Rattle.readers_core.proofs.open.Reads as open-reads
 use Rattle.readers_core.proofs.take.Reads as take-reads
@@ -85,6 +79,8 @@ use Rattle.readers_structs.proofs.starts_type.Reads as starts-type-read
 use Rattle.readers_structs.proofs.switch_head.Reads as switch-head-reads
 use Rattle.readers_structs.proofs.+case_clause+constr_type_spec+element_spec+further_cases+further_members+member+member_list+struct_body+struct_type+switch_block+switch_body+type_spec+union_rest+union_type.{statement}
 use Rattle.readers_structs.proofs.+case_clause+constr_type_spec+element_spec+further_cases+further_members+member+member_list+struct_body+struct_type+switch_block+switch_body+type_spec+union_rest+union_type.Tie.{close}
+use Rattle.readers_core.proofs.node.Reads as node-reads
+use Rattle.readers_core.proofs.has_stopped.Reads as has-stopped-reads
 
 abbrev μ-case-clause : Measures 2 case-clause-kinds.ps ℕ
 μ-case-clause κs a = 20 * a .1 .1 .1 .0 + 16
@@ -218,27 +214,25 @@ abbrev union-type-below : ℕ → In 2 union-type-kinds.ps
 union-type-below t = and 2 union-type-kinds.ps (falls 2 union-type-kinds.ps _<_ μ-union-type t) union-type.Pre
 
 abbrev further-cases-Inv-loop : further-cases-lts.InvT-loop
-further-cases-Inv-loop tokens tree₀ depth t₀ tree t =
-    (length tree ≡ length tree₀) × ((start : Reading) → Far tokens depth start (call 75) (t₀, tree₀) (t, tree))
+further-cases-Inv-loop tokens tree₀ s depth t₀ tree t =
+    (length tree ≡ length tree₀) × ((start : ℕ) → Far tokens depth start (call 75) (s, tree₀) (t, tree))
 
 abbrev further-cases-μ-loop : further-cases-lts.MeasureT-loop
-further-cases-μ-loop tokens tree₀ depth t₀ tree t = remaining tokens t
+further-cases-μ-loop tokens tree₀ s depth t₀ tree t = remaining tokens t
 
 abbrev further-members-Inv-loop : further-members-lts.InvT-loop
-further-members-Inv-loop tokens tree₀ depth t₀ tree t =
-    (length tree ≡ length tree₀) × ((start : Reading) → Far tokens depth start (call 71) (t₀, tree₀) (t, tree))
+further-members-Inv-loop tokens tree₀ s depth t₀ tree t =
+    (length tree ≡ length tree₀) × ((start : ℕ) → Far tokens depth start (call 71) (s, tree₀) (t, tree))
 
 abbrev further-members-μ-loop : further-members-lts.MeasureT-loop
-further-members-μ-loop tokens tree₀ depth t₀ tree t = remaining tokens t
+further-members-μ-loop tokens tree₀ s depth t₀ tree t = remaining tokens t
 
 pub +case-clause+constr-type-spec+element-spec+further-cases+further-members+member+member-list+struct-body+struct-type+switch-block+switch-body+type-spec+union-rest+union-type-spec : {M : Type 1} → statement M
-unfolding table round plan-at idl-prediction choose Knows single recorded repeats is-over
+unfolding table round plan-at idl-prediction choose Knows repeats is-over leaves all-recorded none-recorded goes-on
 +case-clause+constr-type-spec+element-spec+further-cases+further-members+member+member-list+struct-body+struct-type+switch-block+switch-body+type-spec+union-rest+union-type-spec =
-    close μ-case-clause μ-constr-type-spec μ-element-spec μ-further-cases μ-further-members μ-member μ-member-list
-    μ-struct-body μ-struct-type μ-switch-block μ-switch-body μ-type-spec μ-union-rest μ-union-type
+    close μ-case-clause μ-constr-type-spec μ-element-spec μ-further-cases μ-further-members μ-member
+    μ-member-list μ-struct-body μ-struct-type μ-switch-block μ-switch-body μ-type-spec μ-union-rest μ-union-type
     (λ t. case-clause-lts.spec (
-      enter-reads.Asked,
-      enter-reads.Learnt,
       case-label-reads.Asked,
       case-label-reads.Learnt,
       further-labels-reads.Asked,
@@ -247,31 +241,28 @@ unfolding table round plan-at idl-prediction choose Knows single recorded repeat
       element-spec.Post,
       take-reads.Asked,
       take-reads.Learnt,
-      leave-reads.Asked,
-      leave-reads.Learnt,
+      node-reads.Asked,
+      node-reads.Learnt,
     )
     (case-clause-at t) case-clause.Post
     (λ c κs. search needs)
     (λ c κs. search needs)
-    (λ c κs. search needs)
     (λ c κs.
-    let pre = c .before .before .before .before .before .before .before .before .before .before .before .before .pre in
+    let pre = c .before .before .before .before .before .before .before .before .before .before .before .pre in
     omega (arith, pre))
     (λ c κs. search needs)
     (λ c κs. search needs)
     (λ c. search needs)
     (λ c.
-    let enter = c .before .before .before .before .before .before .before .before .before .before .before .before .before .before .before .before .before .enter in
     let case-label =
     c .before .before .before .before .before .before .before .before .before .before .before .before .before .before .before .case-label in
     let further-labels =
     c .before .before .before .before .before .before .before .before .before .before .before .further-labels in
     let element-spec = c .before .before .before .before .before .before .before .element-spec in
     let take = c .before .before .before .before .take in
-    let leave = c .before .before .leave in
-    frame 75 (enter .ensures)
-    ((case-label .ensures .in-any _) ▸ (further-labels .ensures .in-any _) ▸ (element-spec .ensures .in-any _)
-    ▸ (take .ensures .reads _ _ .in-any _) ▸ (leave .ensures .closes .wraps _ _)) (leave .ensures .joins)))
+    let node = c .before .before .node in
+    frame 75 ((case-label .ensures .in-any _ _) ▸ (further-labels .ensures .in-any _ _) ▸ (element-spec .ensures .in-any _ _)
+    ▸ (take .ensures .reads _ _ .in-any _ _) ▸ (node .ensures .wraps _ _ _ tt))))
     (λ t. constr-type-spec-lts.spec (
       next-kind-reads.Asked,
       next-kind-reads.Learnt,
@@ -311,31 +302,25 @@ unfolding table round plan-at idl-prediction choose Knows single recorded repeat
     passed-on 48 (except ((58 ∷ []) ∷ (53 ∷ []) ∷ [])) (next-kind .ensures) (match-on .rest) refl tt
     (enum-type .ensures)))
     (λ t. element-spec-lts.spec (
-      enter-reads.Asked,
-      enter-reads.Learnt,
       type-spec-below t,
       type-spec.Post,
       declarator-reads.Asked,
       declarator-reads.Learnt,
-      leave-reads.Asked,
-      leave-reads.Learnt,
+      node-reads.Asked,
+      node-reads.Learnt,
     )
     (element-spec-at t) element-spec.Post
-    (λ c κs. search needs)
     (λ c κs.
-    let pre = c .before .before .before .before .pre in
+    let pre = c .before .before .before .pre in
     omega (arith, pre))
     (λ c κs. search needs)
     (λ c κs. search needs)
     (λ c. search needs)
     (λ c.
-    let enter = c .before .before .before .before .before .before .before .before .before .before .before .before .enter in
     let type-spec = c .before .before .before .before .before .before .before .before .before .before .type-spec in
     let declarator = c .before .before .before .before .before .before .declarator in
-    let leave = c .before .before .leave in
-    frame 77 (enter .ensures)
-    ((type-spec .ensures .in-any _) ▸ (declarator .ensures .in-any _) ▸ (leave .ensures .closes .wraps _ _))
-    (leave .ensures .joins)))
+    let node = c .before .before .node in
+    frame 77 ((type-spec .ensures .in-any _ _) ▸ (declarator .ensures .in-any _ _) ▸ (node .ensures .wraps _ _ _ tt))))
     (λ t. further-cases-lts.spec (
       next-kind-reads.Asked,
       next-kind-reads.Learnt,
@@ -347,7 +332,8 @@ unfolding table round plan-at idl-prediction choose Knows single recorded repeat
     (further-cases-at t) further-cases.Post
     further-cases-Inv-loop
     further-cases-μ-loop
-    (λ c. (refl, λ start. far-here))
+    (λ c.
+    (refl, λ start. far-here))
     (λ c κs. search needs)
     (λ c κs. search needs)
     (λ c κs.
@@ -361,7 +347,7 @@ unfolding table round plan-at idl-prediction choose Knows single recorded repeat
     let case-clause = c .before .before .case-clause in
     turn-falls {start = (loop .t)} (among case-starts) (next-kind .ensures)
     (is-in case-starts (next-kind .result) (starts-case .ensures) (if1 .taken)) tt
-    (case-clause .ensures .in-any _))
+    (λ hs. case-clause .ensures .in-any _ hs))
     (λ c.
     let loop = c .before .before .before .before .before .before .before .loop in
     let next-kind = c .before .before .before .before .before .before .next-kind in
@@ -371,7 +357,7 @@ unfolding table round plan-at idl-prediction choose Knows single recorded repeat
       (case-clause .kept .1 .0) ∙ (loop .inv .0),
       λ start. far-more (among case-starts) (next-kind .ensures)
           (is-in case-starts (next-kind .result) (starts-case .ensures) (if1 .taken)) tt
-          (case-clause .ensures .in-any _) ((loop .inv .1) start),
+          (λ hs. case-clause .ensures .in-any _ hs) ((loop .inv .1) start),
     ))
     (λ c. search needs)
     (λ c.
@@ -379,23 +365,22 @@ unfolding table round plan-at idl-prediction choose Knows single recorded repeat
     let next-kind = c .before .before .next-kind in
     let starts-case = c .before .starts-case in
     record {
-      in-any =
-          λ start. far-over (except (case-starts ∷ [])) (next-kind .ensures)
-          (is-out case-starts (next-kind .result) (starts-case .ensures) (c .if1 .left)) tt ((loop .inv .1) start);
+      in-any = λ start hs. far-over (except (case-starts ∷ [])) (next-kind .ensures)
+          (is-out case-starts (next-kind .result) (starts-case .ensures) (c .if1 .left)) tt ((loop .inv .1) start) hs;
     }))
     (λ t. further-members-lts.spec (
       next-kind-reads.Asked,
       next-kind-reads.Learnt,
       starts-type-reads.Asked,
       starts-type-reads.Learnt,
-      member-below
-          t,
+      member-below t,
       member.Post,
     )
     (further-members-at t) further-members.Post
     further-members-Inv-loop
     further-members-μ-loop
-    (λ c. (refl, λ start. far-here))
+    (λ c.
+    (refl, λ start. far-here))
     (λ c κs. search needs)
     (λ c κs. search needs)
     (λ c κs.
@@ -408,7 +393,7 @@ unfolding table round plan-at idl-prediction choose Knows single recorded repeat
     let if1 = c .before .before .before .before .if1 in
     let member = c .before .before .member in
     turn-falls {start = (loop .t)} (among type-starts) (next-kind .ensures)
-    (is-in type-starts (next-kind .result) (starts-type .ensures) (if1 .taken)) tt (member .ensures .in-any _))
+    (is-in type-starts (next-kind .result) (starts-type .ensures) (if1 .taken)) tt (λ hs. member .ensures .in-any _ hs))
     (λ c.
     let loop = c .before .before .before .before .before .before .before .loop in
     let next-kind = c .before .before .before .before .before .before .next-kind in
@@ -417,7 +402,7 @@ unfolding table round plan-at idl-prediction choose Knows single recorded repeat
     let member = c .before .before .member in (
       (member .kept .1 .0) ∙ (loop .inv .0),
       λ start. far-more (among type-starts) (next-kind .ensures)
-          (is-in type-starts (next-kind .result) (starts-type .ensures) (if1 .taken)) tt (member .ensures .in-any _)
+          (is-in type-starts (next-kind .result) (starts-type .ensures) (if1 .taken)) tt (λ hs. member .ensures .in-any _ hs)
           ((loop .inv .1) start),
     ))
     (λ c. search needs)
@@ -426,72 +411,84 @@ unfolding table round plan-at idl-prediction choose Knows single recorded repeat
     let next-kind = c .before .before .next-kind in
     let starts-type = c .before .starts-type in
     record {
-      in-any =
-          λ start. far-over (except (type-starts ∷ [])) (next-kind .ensures)
-          (is-out type-starts (next-kind .result) (starts-type .ensures) (c .if1 .left)) tt ((loop .inv .1) start);
+      in-any = λ start hs. far-over (except (type-starts ∷ [])) (next-kind .ensures)
+          (is-out type-starts (next-kind .result) (starts-type .ensures) (c .if1 .left)) tt ((loop .inv .1) start) hs;
     }))
     (λ t. member-lts.spec (
-      enter-reads.Asked,
-      enter-reads.Learnt,
       type-spec-below t,
       type-spec.Post,
       declarators-reads.Asked,
       declarators-reads.Learnt,
       take-reads.Asked,
       take-reads.Learnt,
-      leave-reads.Asked,
-      leave-reads.Learnt,
+      node-reads.Asked,
+      node-reads.Learnt,
     )
     (member-at t) member.Post
-    (λ c κs. search needs)
     (λ c κs.
-    let pre = c .before .before .before .before .pre in
+    let pre = c .before .before .before .pre in
     omega (arith, pre))
     (λ c κs. search needs)
     (λ c κs. search needs)
     (λ c κs. search needs)
     (λ c. search needs)
     (λ c.
-    let enter = c .before .before .before .before .before .before .before .before .before .before .before .before .before .enter in
     let type-spec =
     c .before .before .before .before .before .before .before .before .before .before .before .type-spec in
     let declarators = c .before .before .before .before .before .before .before .declarators in
     let take = c .before .before .before .before .take in
-    let leave = c .before .before .leave in
-    frame 71 (enter .ensures)
-    ((type-spec .ensures .in-any _) ▸ (declarators .ensures .in-any _) ▸ (take .ensures .reads _ _ .in-any _) ▸
-    (leave .ensures .closes .wraps _ _)) (leave .ensures .joins)))
+    let node = c .before .before .node in
+    frame 71 ((type-spec .ensures .in-any _ _) ▸ (declarators .ensures .in-any _ _) ▸ (take .ensures .reads _ _ .in-any _ _) ▸
+    (node .ensures .wraps _ _ _ tt))))
     (λ t. member-list-lts.spec (
-      enter-reads.Asked,
-      enter-reads.Learnt,
       member-below t,
       member.Post,
+      next-kind-reads.Asked,
+      next-kind-reads.Learnt,
+      starts-type-reads.Asked,
+      starts-type-reads.Learnt,
       further-members-below t,
       further-members.Post,
-      leave-reads.Asked,
-      leave-reads.Learnt,
+      node-reads.Asked,
+      node-reads.Learnt,
     )
     (member-list-at t) member-list.Post
+    (λ c κs.
+    let pre = c .before .before .before .pre in
+    omega (arith, pre))
+    (λ c κs. search needs)
     (λ c κs. search needs)
     (λ c κs.
-    let pre = c .before .before .before .before .pre in
-    omega (arith, pre))
-    (λ c κs.
-    let pre = c .before .before .before .before .before .before .before .before .pre in
+    let pre = c .before .before .before .before .before .before .before .before .before .before .pre in
     omega (arith, pre))
     (λ c κs. search needs)
     (λ c. search needs)
     (λ c.
-    let enter = c .before .before .before .before .before .before .before .before .before .before .before .before .enter in
-    let member = c .before .before .before .before .before .before .before .before .before .before .member in
+    let member =
+    c .before .before .before .before .before .before .before .before .before .before .before .before .before .member in
+    let next-kind = c .before .before .before .before .before .before .before .before .before .before .next-kind in
+    let starts-type = c .before .before .before .before .before .before .before .before .before .starts-type in
+    let if1 = c .before .before .before .before .before .before .before .before .if1 in
     let further-members = c .before .before .before .before .before .before .further-members in
-    let leave = c .before .before .leave in
-    frame 70 (enter .ensures)
-    ((member .ensures .in-any _) ▸ (further-members .ensures .in-any _) ▸ (leave .ensures .closes .wraps _ _))
-    (leave .ensures .joins)))
+    let node = c .before .before .node in
+    frame 70 ((member .ensures .in-any _ _) ▸
+    chosen (among type-starts) (next-kind .ensures)
+    (is-in type-starts (next-kind .result) (starts-type .ensures) (if1 .taken))
+    (once-at-least (among type-starts) (next-kind .ensures) (is-in type-starts (next-kind .result) (starts-type .ensures) (if1 .taken)) tt (further-members .ensures .in-any _ _) ▸
+    (node .ensures .wraps _ _ _ tt))))
+    (λ c. search needs)
+    (λ c.
+    let member = c .before .before .before .before .before .member in
+    let next-kind = c .before .before .next-kind in
+    let starts-type = c .before .starts-type in
+    frame 70 ((member .ensures .in-any _ _) ▸
+    chosen (except (type-starts ∷ [])) (next-kind .ensures)
+    (is-out type-starts (next-kind .result) (starts-type .ensures) (c .if1 .left)) (skipped ▸ unrecorded tt))))
     (λ t. struct-body-lts.spec (
       open-reads.Asked,
       open-reads.Learnt,
+      has-stopped-reads.Asked,
+      has-stopped-reads.Learnt,
       member-list-below t,
       member-list.Post,
       take-reads.Asked,
@@ -499,60 +496,61 @@ unfolding table round plan-at idl-prediction choose Knows single recorded repeat
     )
     (struct-body-at t) struct-body.Post
     (λ c κs. search needs)
+    (λ c κs. search needs)
     (λ c.
     let opening = c .before .before .«open» in
-    record { in-any = λ start. shut-out (opening .ensures) (c .if1 .taken) })
+    let has-stopped = c .before .has-stopped in
+    record { in-any = λ start hs. shut-out (opening .ensures) (stopped-if (opening .result) (has-stopped .ensures) (c .if1 .taken)) })
     (λ c.
     let opening = c .before .before .before .«open» in
+    let has-stopped = c .before .before .has-stopped in
     let if1 = c .before .if1 in
-    omega (arith, level (opening .ensures) (if1 .left)))
+    omega (arith, level (opening .ensures) (going-if (opening .result) (has-stopped .ensures) (if1 .left))))
     (λ c κs.
     let pre = c .before .before .before .before .before .before .pre in
     let opening = c .before .before .before .«open» in
+    let has-stopped = c .before .before .has-stopped in
     let if1 = c .before .if1 in
-    omega (arith, pre, level (opening .ensures) (if1 .left)))
+    omega (arith, pre, level (opening .ensures) (going-if (opening .result) (has-stopped .ensures) (if1 .left))))
     (λ c κs. search needs)
     (λ c. search needs)
     (λ c.
     let opening = c .before .before .before .before .before .before .before .«open» in
+    let has-stopped = c .before .before .before .before .before .before .has-stopped in
     let if1 = c .before .before .before .before .before .if1 in
     let member-list = c .before .before .before .member-list in
     record {
-      in-any =
-          λ start. grouped (opening .ensures) (if1 .left)
-          ((member-list .ensures .in-any _) ▸ (c .take .ensures .reads _ _ .in-any _));
+      in-any = λ start hs. grouped (opening .ensures) (going-if (opening .result) (has-stopped .ensures) (if1 .left))
+          ((member-list .ensures .in-any _ _) ▸ (c .take .ensures .reads _ _ .in-any _ _));
     }))
     (λ t. struct-type-lts.spec (
-      enter-reads.Asked,
-      enter-reads.Learnt,
       take-reads.Asked,
       take-reads.Learnt,
       struct-body-below t,
       struct-body.Post,
-      leave-reads.Asked,
-      leave-reads.Learnt,
+      node-reads.Asked,
+      node-reads.Learnt,
     )
     (struct-type-at t) struct-type.Post
     (λ c κs. search needs)
     (λ c κs. search needs)
-    (λ c κs. search needs)
     (λ c κs.
-    let pre = c .before .before .before .before .before .before .pre in
+    let pre = c .before .before .before .before .before .pre in
     omega (arith, pre))
     (λ c κs. search needs)
     (λ c. search needs)
     (λ c.
-    let enter = c .before .before .before .before .before .before .before .before .before .before .enter in
     let take = c .before .before .before .before .before .before .before .before .before .take in
     let take2 = c .before .before .before .before .before .before .before .before .take2 in
     let struct-body = c .before .before .before .before .before .before .struct-body in
-    let leave = c .before .before .leave in
-    frame 69 (enter .ensures)
-    ((take .ensures .reads _ _ .in-any _) ▸ (take2 .ensures .reads _ _ .in-any _) ▸
-    (struct-body .ensures .in-any _) ▸ (leave .ensures .closes .wraps _ _)) (leave .ensures .joins)))
+    let node = c .before .before .node in
+    frame 69 ((take .ensures .reads _ _ .in-any _ _) ▸ (take2 .ensures .reads _ _ .in-any _ _) ▸
+    (struct-body .ensures .in-any _ _) ▸ (node .ensures .wraps _ _ _ tt))))
     (λ t. switch-block-lts.spec (
       open-reads.Asked,
       open-reads.Learnt,
+      has-stopped-reads.Asked,
+      has-stopped-reads.Learnt,
       switch-body-below t,
       switch-body.Post,
       take-reads.Asked,
@@ -560,58 +558,77 @@ unfolding table round plan-at idl-prediction choose Knows single recorded repeat
     )
     (switch-block-at t) switch-block.Post
     (λ c κs. search needs)
+    (λ c κs. search needs)
     (λ c.
     let opening = c .before .before .«open» in
-    record { in-any = λ start. shut-out (opening .ensures) (c .if1 .taken) })
+    let has-stopped = c .before .has-stopped in
+    record { in-any = λ start hs. shut-out (opening .ensures) (stopped-if (opening .result) (has-stopped .ensures) (c .if1 .taken)) })
     (λ c.
     let opening = c .before .before .before .«open» in
+    let has-stopped = c .before .before .has-stopped in
     let if1 = c .before .if1 in
-    omega (arith, level (opening .ensures) (if1 .left)))
+    omega (arith, level (opening .ensures) (going-if (opening .result) (has-stopped .ensures) (if1 .left))))
     (λ c κs.
     let pre = c .before .before .before .before .before .before .pre in
     let opening = c .before .before .before .«open» in
+    let has-stopped = c .before .before .has-stopped in
     let if1 = c .before .if1 in
-    omega (arith, pre, level (opening .ensures) (if1 .left)))
+    omega (arith, pre, level (opening .ensures) (going-if (opening .result) (has-stopped .ensures) (if1 .left))))
     (λ c κs. search needs)
     (λ c. search needs)
     (λ c.
     let opening = c .before .before .before .before .before .before .before .«open» in
+    let has-stopped = c .before .before .before .before .before .before .has-stopped in
     let if1 = c .before .before .before .before .before .if1 in
     let switch-body = c .before .before .before .switch-body in
     record {
-      in-any =
-          λ start. grouped (opening .ensures) (if1 .left)
-          ((switch-body .ensures .in-any _) ▸ (c .take .ensures .reads _ _ .in-any _));
+      in-any = λ start hs. grouped (opening .ensures) (going-if (opening .result) (has-stopped .ensures) (if1 .left))
+          ((switch-body .ensures .in-any _ _) ▸ (c .take .ensures .reads _ _ .in-any _ _));
     }))
     (λ t. switch-body-lts.spec (
-      enter-reads.Asked,
-      enter-reads.Learnt,
       case-clause-below t,
       case-clause.Post,
+      next-kind-reads.Asked,
+      next-kind-reads.Learnt,
+      starts-case-reads.Asked,
+      starts-case-reads.Learnt,
       further-cases-below t,
       further-cases.Post,
-      leave-reads.Asked,
-      leave-reads.Learnt,
+      node-reads.Asked,
+      node-reads.Learnt,
     )
     (switch-body-at t) switch-body.Post
+    (λ c κs.
+    let pre = c .before .before .before .pre in
+    omega (arith, pre))
+    (λ c κs. search needs)
     (λ c κs. search needs)
     (λ c κs.
-    let pre = c .before .before .before .before .pre in
-    omega (arith, pre))
-    (λ c κs.
-    let pre = c .before .before .before .before .before .before .before .before .pre in
+    let pre = c .before .before .before .before .before .before .before .before .before .before .pre in
     omega (arith, pre))
     (λ c κs. search needs)
     (λ c. search needs)
     (λ c.
-    let enter = c .before .before .before .before .before .before .before .before .before .before .before .before .enter in
     let case-clause =
-    c .before .before .before .before .before .before .before .before .before .before .case-clause in
+    c .before .before .before .before .before .before .before .before .before .before .before .before .before .case-clause in
+    let next-kind = c .before .before .before .before .before .before .before .before .before .before .next-kind in
+    let starts-case = c .before .before .before .before .before .before .before .before .before .starts-case in
+    let if1 = c .before .before .before .before .before .before .before .before .if1 in
     let further-cases = c .before .before .before .before .before .before .further-cases in
-    let leave = c .before .before .leave in
-    frame 74 (enter .ensures)
-    ((case-clause .ensures .in-any _) ▸ (further-cases .ensures .in-any _) ▸
-    (leave .ensures .closes .wraps _ _)) (leave .ensures .joins)))
+    let node = c .before .before .node in
+    frame 74 ((case-clause .ensures .in-any _ _) ▸
+    chosen (among case-starts) (next-kind .ensures)
+    (is-in case-starts (next-kind .result) (starts-case .ensures) (if1 .taken))
+    (once-at-least (among case-starts) (next-kind .ensures) (is-in case-starts (next-kind .result) (starts-case .ensures) (if1 .taken)) tt (further-cases .ensures .in-any _ _) ▸
+    (node .ensures .wraps _ _ _ tt))))
+    (λ c. search needs)
+    (λ c.
+    let case-clause = c .before .before .before .before .before .case-clause in
+    let next-kind = c .before .before .next-kind in
+    let starts-case = c .before .starts-case in
+    frame 74 ((case-clause .ensures .in-any _ _) ▸
+    chosen (except (case-starts ∷ [])) (next-kind .ensures)
+    (is-out case-starts (next-kind .result) (starts-case .ensures) (c .if1 .left)) (skipped ▸ unrecorded tt))))
     (λ t. type-spec-lts.spec (
       next-kind-reads.Asked,
       next-kind-reads.Learnt,
@@ -647,8 +664,8 @@ unfolding table round plan-at idl-prediction choose Knows single recorded repeat
       switch-head-reads.Learnt,
       switch-block-below t,
       switch-block.Post,
-      close-reads.Asked,
-      close-reads.Learnt,
+      node-reads.Asked,
+      node-reads.Learnt,
     )
     (union-rest-at t) union-rest.Post
     (λ c κs. search needs)
@@ -659,37 +676,30 @@ unfolding table round plan-at idl-prediction choose Knows single recorded repeat
     (λ c κs. search needs)
     (λ c. search needs)
     (λ c.
-    let take = c .before .before .before .before .before .before .before .before .before .before .before .before .take in
-    let switch-head =
-    c .before .before .before .before .before .before .before .before .before .before .switch-head in
+    let take =
+    c .before .before .before .before .before .before .before .before .before .before .before .before .take in
+    let switch-head = c .before .before .before .before .before .before .before .before .before .before .switch-head in
     let switch-block = c .before .before .before .before .before .before .switch-block in
-    let close = c .before .before .close in
-    (take .ensures .reads _ _ .in-any _) ▸ (switch-head .ensures .in-any _) ▸ (switch-block .ensures .in-any _) ▸
-    (close .ensures .wraps _ _)))
+    let node = c .before .before .node in
+    record {
+      of-any = λ hs. (take .ensures .reads _ _ .in-any _ _) ▸ (switch-head .ensures .in-any _ _) ▸
+          (switch-block .ensures .in-any _ _) ▸ (node .ensures .wraps _ _ _ tt);
+    }))
     (λ t. union-type-lts.spec (
-      enter-reads.Asked,
-      enter-reads.Learnt,
       take-reads.Asked,
       take-reads.Learnt,
       union-rest-below t,
       union-rest.Post,
-      join-reads.Asked,
-      join-reads.Learnt,
     )
     (union-type-at t) union-type.Post
     (λ c κs. search needs)
     (λ c κs. search needs)
-    (λ c κs. search needs)
     (λ c κs.
-    let pre = c .before .before .before .before .before .before .pre in
+    let pre = c .before .before .before .before .before .pre in
     omega (arith, pre))
-    (λ c κs. search needs)
     (λ c. search needs)
     (λ c.
-    let enter = c .before .before .before .before .before .before .before .enter in
-    let take = c .before .before .before .before .before .before .take in
-    let take2 = c .before .before .before .before .before .take2 in
-    let union-rest = c .before .before .before .union-rest in
-    frame 72 (enter .ensures)
-    ((take .ensures .reads _ _ .in-any _) ▸ (take2 .ensures .reads _ _ .in-any _) ▸ (union-rest .ensures))
-    (c .join .ensures)))
+    let take = c .before .before .before .before .before .take in
+    let take2 = c .before .before .before .before .take2 in
+    let union-rest = c .before .before .union-rest in
+    frame 72 ((take .ensures .reads _ _ .in-any _ _) ▸ (take2 .ensures .reads _ _ .in-any _ _) ▸ (union-rest .ensures .of-any _))))

@@ -5,28 +5,28 @@ use Rattle.prediction.specs.Columns.{plan-at, round}
 use Rattle.prediction.specs.IdlPlans.{idl-prediction}
 use Rattle.readers_core.proofs.Frames.{frame}
 use Rattle.readers_core.proofs.Sequence.{_▸_}
+use Rattle.readers_core.proofs.Shapes.{leaves}
+use Rattle.readers_core.specs.Reading.{all-recorded, none-recorded}
 use borrow.Author.Needs.{needs}
 use Rattle.readers_structs.proofs.const_dcl.Statement.{statement}
 use Rattle.readers_structs.proofs.const_dcl.Tie as tie
 
 returns : tie.Need-returns
-unfolding table round plan-at idl-prediction
+unfolding table round plan-at idl-prediction leaves all-recorded none-recorded
 returns c =
-    let enter = c .before .before .before .before .before .before .before .before .before .before .before .before .before .before .before .enter in
-    let take = c .before .before .before .before .before .before .before .before .before .before .before .before .before .before .take in
+    let take =
+    c .before .before .before .before .before .before .before .before .before .before .before .before .before .before .take in
     let const-type =
     c .before .before .before .before .before .before .before .before .before .before .before .before .const-type in
     let take2 = c .before .before .before .before .before .before .before .before .before .take2 in
     let take3 = c .before .before .before .before .before .before .before .before .take3 in
     let const-exp = c .before .before .before .before .before .before .const-exp in
-    let leave = c .before .before .leave in
-    frame 27 (enter .ensures)
-    ((take .ensures .reads _ _ .in-any _) ▸ (const-type .ensures .in-any _) ▸ (take2 .ensures .reads _ _ .in-any _)
-    ▸ (take3 .ensures .reads _ _ .in-any _) ▸ (const-exp .ensures .in-any _) ▸ (leave .ensures .closes .wraps _ _))
-    (leave .ensures .joins)
+    let node = c .before .before .node in
+    frame 27 ((take .ensures .reads _ _ .in-any _ _) ▸ (const-type .ensures .in-any _ _) ▸
+    (take2 .ensures .reads _ _ .in-any _ _) ▸ (take3 .ensures .reads _ _ .in-any _ _) ▸
+    (const-exp .ensures .in-any _ _) ▸ (node .ensures .wraps _ _ _ tt))
 
 pub const-dcl-spec : {M : Type 1} → statement M
 const-dcl-spec =
     tie.close (tie.spec (λ c κs. search needs) (λ c κs. search needs) (λ c κs. search needs)
-    (λ c κs. search needs) (λ c κs. search needs) (λ c κs. search needs) (λ c κs. search needs)
-    (λ c. search needs) returns)
+    (λ c κs. search needs) (λ c κs. search needs) (λ c κs. search needs) (λ c. search needs) returns)

@@ -6,34 +6,40 @@ use Rattle.prediction.specs.IdlPlans.{idl-prediction}
 use Rattle.readers_core.proofs.Choosing.{Knows, among, choose, except}
 use Rattle.readers_core.proofs.Frames.{chosen}
 use Rattle.readers_core.proofs.Sequence.{_▸_}
-use Rattle.readers_structs.specs.Plans.{struct-body}
+use Rattle.readers_core.proofs.Shapes.{leaves}
+use Rattle.readers_core.specs.Reading.{all-recorded, none-recorded}
 use borrow.Author.Needs.{needs}
 use mathlib.Core.List.{[], _∷_}
 use Rattle.readers_structs.proofs.struct_dcl.Statement.{statement}
 use Rattle.readers_structs.proofs.struct_dcl.Tie as tie
 
 returns : tie.Need-returns
-unfolding table round plan-at idl-prediction choose Knows
+unfolding table round plan-at idl-prediction choose Knows leaves all-recorded none-recorded
 returns c =
     let take = c .before .before .before .before .before .before .before .before .before .before .before .take in
     let take2 = c .before .before .before .before .before .before .before .before .before .before .take2 in
     let next-kind = c .before .before .before .before .before .before .before .before .before .next-kind in
     let if1 = c .before .before .before .before .before .before .before .before .if1 in
     let struct-body = c .before .before .before .before .before .before .struct-body in
-    let close = c .before .before .close in
-    (take .ensures .reads _ _ .in-any _) ▸ (take2 .ensures .reads _ _ .in-any _) ▸ chosen (among (65 ∷ []))
-    (next-kind .ensures) (if1 .taken) ((struct-body .ensures .in-any _) ▸ (close .ensures .wraps _ _))
+    let node = c .before .before .node in
+    record {
+      of-any = λ hs. (take .ensures .reads _ _ .in-any _ _) ▸ (take2 .ensures .reads _ _ .in-any _ _) ▸
+          chosen (among (65 ∷ [])) (next-kind .ensures) (if1 .taken)
+          ((struct-body .ensures .in-any _ _) ▸ (node .ensures .wraps _ _ _ tt));
+    }
 
 returns-2 : tie.Need-returns-2
-unfolding table round plan-at idl-prediction choose Knows
+unfolding table round plan-at idl-prediction choose Knows leaves all-recorded none-recorded
 returns-2 c =
     let take = c .before .before .before .before .before .before .before .take in
     let take2 = c .before .before .before .before .before .before .take2 in
     let next-kind = c .before .before .before .before .before .next-kind in
     let if1 = c .before .before .before .before .if1 in
-    let close2 = c .before .before .close2 in
-    (take .ensures .reads _ _ .in-any _) ▸ (take2 .ensures .reads _ _ .in-any _) ▸ chosen (except ((65 ∷ []) ∷ []))
-    (next-kind .ensures) (tt, (if1 .left)) (close2 .ensures .wraps _ _)
+    let node2 = c .before .before .node2 in
+    record {
+      of-any = λ hs. (take .ensures .reads _ _ .in-any _ _) ▸ (take2 .ensures .reads _ _ .in-any _ _) ▸
+          chosen (except ((65 ∷ []) ∷ [])) (next-kind .ensures) (tt, (if1 .left)) (node2 .ensures .wraps _ _ _ tt);
+    }
 
 pub struct-dcl-spec : {M : Type 1} → statement M
 struct-dcl-spec =

@@ -5,22 +5,21 @@ use Rattle.prediction.specs.Columns.{plan-at, round}
 use Rattle.prediction.specs.IdlPlans.{idl-prediction}
 use Rattle.readers_core.proofs.Frames.{frame}
 use Rattle.readers_core.proofs.Sequence.{_▸_}
+use Rattle.readers_core.proofs.Shapes.{leaves}
+use Rattle.readers_core.specs.Reading.{all-recorded, none-recorded}
 use borrow.Author.Needs.{needs}
 use Rattle.readers_structs.proofs.type_declarator.Statement.{statement}
 use Rattle.readers_structs.proofs.type_declarator.Tie as tie
 
 returns : tie.Need-returns
-unfolding table round plan-at idl-prediction
+unfolding table round plan-at idl-prediction leaves all-recorded none-recorded
 returns c =
-    let enter = c .before .before .before .before .before .before .before .before .before .before .before .before .enter in
     let type-spec = c .before .before .before .before .before .before .before .before .before .before .type-spec in
     let declarators = c .before .before .before .before .before .before .declarators in
-    let leave = c .before .before .leave in
-    frame 43 (enter .ensures)
-    ((type-spec .ensures .in-any _) ▸ (declarators .ensures .in-any _) ▸ (leave .ensures .closes .wraps _ _))
-    (leave .ensures .joins)
+    let node = c .before .before .node in
+    frame 43 ((type-spec .ensures .in-any _ _) ▸ (declarators .ensures .in-any _ _) ▸ (node .ensures .wraps _ _ _ tt))
 
 pub type-declarator-spec : {M : Type 1} → statement M
 type-declarator-spec =
-    tie.close (tie.spec (λ c κs. search needs) (λ c κs. search needs) (λ c κs. search needs)
-    (λ c κs. search needs) (λ c. search needs) returns)
+    tie.close (tie.spec (λ c κs. search needs) (λ c κs. search needs) (λ c κs. search needs) (λ c. search needs)
+    returns)

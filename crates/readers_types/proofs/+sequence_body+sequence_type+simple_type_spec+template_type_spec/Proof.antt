@@ -1,21 +1,20 @@
 -- A sequence holds a simple type, which may be a sequence: four readers that call each other, each by its plan.
 -- Remaining depth falls at the opening mark of a sequence, and else the measure by the reader's rank. Assumes nothing.
-use Rattle.grammar.specs.Depth.{opening}
-use Rattle.grammar.specs.Record.{recorded}
 use Rattle.prediction.specs.Check.{table}
 use Rattle.prediction.specs.Columns.{plan-at, round}
 use Rattle.prediction.specs.IdlPlans.{idl-prediction}
-use Rattle.readers_core.proofs.Chain.{passed-on, single}
+use Rattle.readers_core.proofs.Frames.{frame, passed-on}
 use Rattle.readers_core.proofs.Choosing.{Knows, among, choose, except}
-use Rattle.readers_core.proofs.Frames.{frame}
 use Rattle.readers_core.proofs.Groups.{grouped, level, shut-out}
 use Rattle.readers_core.proofs.Sequence.{_▸_}
-use Rattle.readers_types.specs.Plans.{sequence-body, sequence-bound}
+use Rattle.readers_core.proofs.Views.{going-if, stopped-if}
+use Rattle.readers_core.proofs.Shapes.{leaves}
+use Rattle.readers_core.specs.Reading.{all-recorded, none-recorded}
 use borrow.Author.Needs.{needs}
 use mathlib.Core.List.{[], _∷_}
 use mathlib.Core.Path.{refl}
 use native.Mathlib.Omega.{arith}
-use Prim.Native.Nat.{ℕ, _+_, _*_, _-_, _<_}
+use Prim.Native.Nat.{ℕ, _+_, _*_, _<_}
 use borrow.Fn.Kinds.{In}
 use borrow.Fn.PlainCycle.{Measures, is, falls, and}
 use Rattle.readers_types.proofs.sequence_body.Reads as sequence-body
@@ -30,8 +29,6 @@ use Rattle.readers_types.proofs.+sequence_body+sequence_type+simple_typ
 use Rattle.readers_types.proofs.template_type_spec.Reads as template-type-spec
 use Rattle.readers_types.proofs.template_type_spec.Kinds as template-type-spec-kinds
 use Rattle.readers_types.proofs.+sequence_body+sequence_type+simple_type_spec+template_type_spec.Lts-template_type_spec as template-type-spec-lts
-use Rattle.readers_core.proofs.enter.Reads as enter-reads
-use Rattle.readers_core.proofs.leave.Reads as leave-reads
 use Rattle.readers_core.proofs.next_kind.Reads as next-kind-reads
 use Rattle.readers_core.proofs.open.Reads as open-reads
 use Rattle.readers_core.proofs.take.Reads as take-reads
@@ -42,6 +39,8 @@ use Rattle.readers_types.proofs.sequence_bound.Reads as sequence-bound-
 use Rattle.readers_types.proofs.string_type.Reads as string-type-reads
 use Rattle.readers_types.proofs.+sequence_body+sequence_type+simple_type_spec+template_type_spec.{statement}
 use Rattle.readers_types.proofs.+sequence_body+sequence_type+simple_type_spec+template_type_spec.Tie.{close}
+use Rattle.readers_core.proofs.has_stopped.Reads as has-stopped-reads
+use Rattle.readers_core.proofs.node.Reads as node-reads
 
 abbrev μ-sequence-body : Measures 2 sequence-body-kinds.ps ℕ
 μ-sequence-body κs a = 4 * a .1 .1 .1 .0
@@ -87,12 +86,14 @@ template-type-spec-below t =
     template-type-spec.Pre
 
 pub +sequence-body+sequence-type+simple-type-spec+template-type-spec-spec : {M : Type 1} → statement M
-unfolding table round plan-at idl-prediction choose Knows single recorded
+unfolding table round plan-at idl-prediction choose Knows leaves all-recorded none-recorded
 +sequence-body+sequence-type+simple-type-spec+template-type-spec-spec =
     close μ-sequence-body μ-sequence-type μ-simple-type-spec μ-template-type-spec
     (λ t. sequence-body-lts.spec (
       open-reads.Asked,
       open-reads.Learnt,
+      has-stopped-reads.Asked,
+      has-stopped-reads.Learnt,
       simple-type-spec-below t,
       simple-type-spec.Post,
       sequence-bound-reads.Asked,
@@ -102,63 +103,65 @@ unfolding table round plan-at idl-prediction choose Knows single recorded
     )
     (sequence-body-at t) sequence-body.Post
     (λ c κs. search needs)
+    (λ c κs. search needs)
     (λ c.
     let opening = c .before .before .«open» in
-    record { in-any = λ start. shut-out (opening .ensures) (c .if1 .taken) })
+    let has-stopped = c .before .has-stopped in
+    record {
+      in-any = λ start hs. shut-out (opening .ensures)
+          (stopped-if (opening .result) (has-stopped .ensures) (c .if1 .taken));
+    })
     (λ c.
     let opening = c .before .before .before .«open» in
+    let has-stopped = c .before .before .has-stopped in
     let if1 = c .before .if1 in
-    omega (arith, level (opening .ensures) (if1 .left)))
+    omega (arith, level (opening .ensures) (going-if (opening .result) (has-stopped .ensures) (if1 .left))))
     (λ c κs.
     let pre = c .before .before .before .before .before .before .pre in
     let opening = c .before .before .before .«open» in
+    let has-stopped = c .before .before .has-stopped in
     let if1 = c .before .if1 in
-    omega (arith, pre, level (opening .ensures) (if1 .left)))
+    omega (arith, pre, level (opening .ensures) (going-if (opening .result) (has-stopped .ensures) (if1 .left))))
     (λ c.
     let opening = c .before .before .before .before .before .before .before .«open» in
+    let has-stopped = c .before .before .before .before .before .before .has-stopped in
     let if1 = c .before .before .before .before .before .if1 in
-    omega (arith, level (opening .ensures) (if1 .left)))
+    omega (arith, level (opening .ensures) (going-if (opening .result) (has-stopped .ensures) (if1 .left))))
     (λ c κs. search needs)
     (λ c κs. search needs)
     (λ c. search needs)
     (λ c.
-    let opening = c .before .before .before .before .before .before .before .before .before .before .before .«open»
-    in
+    let opening = c .before .before .before .before .before .before .before .before .before .before .before .«open» in
+    let has-stopped = c .before .before .before .before .before .before .before .before .before .before .has-stopped in
     let if1 = c .before .before .before .before .before .before .before .before .before .if1 in
     let simple-type-spec = c .before .before .before .before .before .before .before .simple-type-spec in
     let sequence-bound = c .before .before .before .sequence-bound in
     record {
-      in-any =
-          λ start. grouped (opening .ensures) (if1 .left)
-          (((simple-type-spec .ensures .in-any _) ▸ (sequence-bound .ensures .in-any _)) ▸
-          (c .take .ensures .reads _ _ .in-any _));
+      in-any = λ start hs. grouped (opening .ensures) (going-if (opening .result) (has-stopped .ensures) (if1 .left))
+          (((simple-type-spec .ensures .in-any _ _) ▸ (sequence-bound .ensures .in-any _ _)) ▸
+          (c .take .ensures .reads _ _ .in-any _ _));
     }))
     (λ t. sequence-type-lts.spec (
-      enter-reads.Asked,
-      enter-reads.Learnt,
       take-reads.Asked,
       take-reads.Learnt,
       sequence-body-below t,
       sequence-body.Post,
-      leave-reads.Asked,
-      leave-reads.Learnt,
+      node-reads.Asked,
+      node-reads.Learnt,
     )
     (sequence-type-at t) sequence-type.Post
     (λ c κs. search needs)
-    (λ c κs. search needs)
     (λ c κs.
-    let pre = c .before .before .before .before .before .pre in
+    let pre = c .before .before .before .before .pre in
     omega (arith, pre))
     (λ c κs. search needs)
     (λ c. search needs)
     (λ c.
-    let enter = c .before .before .before .before .before .before .before .before .before .enter in
     let take = c .before .before .before .before .before .before .before .before .take in
     let sequence-body = c .before .before .before .before .before .before .sequence-body in
-    let leave = c .before .before .leave in
-    frame 80 (enter .ensures)
-    ((take .ensures .reads _ _ .in-any _) ▸ (sequence-body .ensures .in-any _) ▸
-    (leave .ensures .closes .wraps _ _)) (leave .ensures .joins)))
+    let node = c .before .before .node in
+    frame 80 ((take .ensures .reads _ _ .in-any _ _) ▸ (sequence-body .ensures .in-any _ _) ▸
+    (node .ensures .wraps _ _ _ tt))))
     (λ t. simple-type-spec-lts.spec (
       next-kind-reads.Asked,
       next-kind-reads.Learnt,

@@ -6,43 +6,41 @@ use Rattle.prediction.specs.IdlPlans.{idl-prediction}
 use Rattle.readers_core.proofs.Choosing.{Knows, among, choose, except}
 use Rattle.readers_core.proofs.Frames.{chosen, frame}
 use Rattle.readers_core.proofs.Sequence.{_▸_}
+use Rattle.readers_core.proofs.Shapes.{leaves}
+use Rattle.readers_core.specs.Reading.{all-recorded, none-recorded}
 use borrow.Author.Needs.{needs}
 use mathlib.Core.List.{[], _∷_}
 use Rattle.readers_types.proofs.case_label.Statement.{statement}
 use Rattle.readers_types.proofs.case_label.Tie as tie
 
 returns : tie.Need-returns
-unfolding table round plan-at idl-prediction choose Knows
+unfolding table round plan-at idl-prediction choose Knows leaves all-recorded none-recorded
 returns c =
-    let enter = c .before .before .before .before .before .before .before .before .before .before .before .before .enter in
     let next-kind =
     c .before .before .before .before .before .before .before .before .before .before .before .next-kind in
     let if1 = c .before .before .before .before .before .before .before .before .before .before .if1 in
     let take = c .before .before .before .before .before .before .before .before .before .take in
     let const-exp = c .before .before .before .before .before .before .before .const-exp in
     let take2 = c .before .before .before .before .take2 in
-    let leave = c .before .before .leave in
-    frame 76 (enter .ensures)
-    (chosen (among (24 ∷ [])) (next-kind .ensures) (if1 .taken)
-    (((take .ensures .reads _ _ .in-any _) ▸ (const-exp .ensures .in-any _) ▸
-    (take2 .ensures .reads _ _ .in-any _)) ▸ (leave .ensures .closes .wraps _ _))) (leave .ensures .joins)
+    let node = c .before .before .node in
+    frame 76 (chosen (among (24 ∷ [])) (next-kind .ensures) (if1 .taken)
+    (((take .ensures .reads _ _ .in-any _ _) ▸ (const-exp .ensures .in-any _ _) ▸
+    (take2 .ensures .reads _ _ .in-any _ _)) ▸ (node .ensures .wraps _ _ _ tt)))
 
 returns-2 : tie.Need-returns-2
-unfolding table round plan-at idl-prediction choose Knows
+unfolding table round plan-at idl-prediction choose Knows leaves all-recorded none-recorded
 returns-2 c =
-    let enter = c .before .before .before .before .before .before .before .before .enter in
     let next-kind = c .before .before .before .before .before .before .before .next-kind in
     let if1 = c .before .before .before .before .before .before .if1 in
     let take3 = c .before .before .before .before .before .take3 in
     let take4 = c .before .before .before .before .take4 in
-    let leave2 = c .before .before .leave2 in
-    frame 76 (enter .ensures)
-    (chosen (except ((24 ∷ []) ∷ [])) (next-kind .ensures) (tt, (if1 .left))
-    (((take3 .ensures .reads _ _ .in-any _) ▸ (take4 .ensures .reads _ _ .in-any _)) ▸
-    (leave2 .ensures .closes .wraps _ _))) (leave2 .ensures .joins)
+    let node2 = c .before .before .node2 in
+    frame 76 (chosen (except ((24 ∷ []) ∷ [])) (next-kind .ensures) (tt, (if1 .left))
+    (((take3 .ensures .reads _ _ .in-any _ _) ▸ (take4 .ensures .reads _ _ .in-any _ _)) ▸
+    (node2 .ensures .wraps _ _ _ tt)))
 
 pub case-label-spec : {M : Type 1} → statement M
 case-label-spec =
     tie.close (tie.spec (λ c κs. search needs) (λ c κs. search needs) (λ c κs. search needs)
-    (λ c κs. search needs) (λ c κs. search needs) (λ c κs. search needs) (λ c. search needs) returns
-    (λ c κs. search needs) (λ c κs. search needs) (λ c κs. search needs) (λ c. search needs) returns-2)
+    (λ c κs. search needs) (λ c κs. search needs) (λ c. search needs) returns (λ c κs. search needs)
+    (λ c κs. search needs) (λ c κs. search needs) (λ c. search needs) returns-2)

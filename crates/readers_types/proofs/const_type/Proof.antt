@@ -1,14 +1,13 @@
 -- `const_type` reads rule 28: a number type in a frame of its own, or another rule, whose node is passed on.
 -- The kind ahead tells which. Assumes nothing.
-use Rattle.grammar.specs.Record.{recorded}
 use Rattle.prediction.specs.Check.{table}
 use Rattle.prediction.specs.Columns.{plan-at, round}
 use Rattle.prediction.specs.IdlPlans.{idl-prediction}
-use Rattle.readers_core.proofs.Chain.{passed-on, single}
+use Rattle.readers_core.proofs.Frames.{frame-on, passed-on}
 use Rattle.readers_core.proofs.Choosing.{Knows, among, choose, except}
-use Rattle.readers_core.proofs.Frames.{frame-on, from-start}
-use Rattle.readers_core.proofs.Sequence.{_▸_}
-use Rattle.readers_names.specs.Plans.{number-type}
+use Rattle.readers_core.proofs.Sequence.{_▸_, unrecorded}
+use Rattle.readers_core.proofs.Shapes.{leaves}
+use Rattle.readers_core.specs.Reading.{all-recorded, none-recorded}
 use borrow.Author.Needs.{needs}
 use mathlib.Core.List.{[], _∷_}
 use mathlib.Core.Path.{refl}
@@ -16,19 +15,16 @@ use Rattle.readers_types.proofs.const_type.Statement.{statement}
 use Rattle.readers_types.proofs.const_type.Tie as tie
 
 returns : tie.Need-returns
-unfolding table round plan-at idl-prediction choose Knows single recorded
+unfolding table round plan-at idl-prediction choose Knows leaves all-recorded none-recorded
 returns c =
-    let next-kind = c .before .before .before .before .before .before .before .before .before .before .next-kind in
-    let match-on = c .before .before .before .before .before .before .before .before .before .match in
-    let enter = c .before .before .before .before .before .before .before .before .enter in
-    let number-type = c .before .before .before .before .before .before .number-type in
-    let leave = c .before .before .leave in
-    frame-on 28 (among (30 ∷ 35 ∷ 40 ∷ 51 ∷ 59 ∷ [])) (next-kind .ensures) (match-on .keys1) (enter .ensures)
-    (from-start (enter .ensures) (number-type .ensures .at-any _) ▸ (leave .ensures .closes .wraps _ _))
-    (leave .ensures .joins)
+    let next-kind = c .before .before .before .before .before .next-kind in
+    let match-on = c .before .before .before .before .match in
+    let number-type = c .before .before .number-type in
+    frame-on 28 (among (30 ∷ 35 ∷ 40 ∷ 51 ∷ 59 ∷ [])) (next-kind .ensures) (match-on .keys1)
+    ((number-type .ensures .at-any _) ▸ unrecorded tt)
 
 returns-2 : tie.Need-returns-2
-unfolding table round plan-at idl-prediction choose Knows single recorded
+unfolding table round plan-at idl-prediction choose Knows leaves all-recorded none-recorded
 returns-2 c =
     let next-kind = c .before .before .before .before .before .next-kind in
     let match-on = c .before .before .before .before .match in
@@ -37,7 +33,7 @@ returns-2 c =
     ((word .ensures .reads) refl .at-any _)
 
 returns-3 : tie.Need-returns-3
-unfolding table round plan-at idl-prediction choose Knows single recorded
+unfolding table round plan-at idl-prediction choose Knows leaves all-recorded none-recorded
 returns-3 c =
     let next-kind = c .before .before .before .before .before .next-kind in
     let match-on = c .before .before .before .before .match in
@@ -46,7 +42,7 @@ returns-3 c =
     ((word2 .ensures .reads) refl .at-any _)
 
 returns-4 : tie.Need-returns-4
-unfolding table round plan-at idl-prediction choose Knows single recorded
+unfolding table round plan-at idl-prediction choose Knows leaves all-recorded none-recorded
 returns-4 c =
     let next-kind = c .before .before .before .before .before .next-kind in
     let match-on = c .before .before .before .before .match in
@@ -55,7 +51,7 @@ returns-4 c =
     ((word3 .ensures .reads) refl .at-any _)
 
 returns-5 : tie.Need-returns-5
-unfolding table round plan-at idl-prediction choose Knows single recorded
+unfolding table round plan-at idl-prediction choose Knows leaves all-recorded none-recorded
 returns-5 c =
     let next-kind = c .before .before .before .before .before .next-kind in
     let match-on = c .before .before .before .before .match in
@@ -63,7 +59,7 @@ returns-5 c =
     passed-on 28 (among (52 ∷ [])) (next-kind .ensures) (match-on .keys5) refl tt ((string-type .ensures .reads) refl)
 
 returns-6 : tie.Need-returns-6
-unfolding table round plan-at idl-prediction choose Knows single recorded
+unfolding table round plan-at idl-prediction choose Knows leaves all-recorded none-recorded
 returns-6 c =
     let next-kind = c .before .before .before .before .before .next-kind in
     let match-on = c .before .before .before .before .match in
@@ -71,7 +67,7 @@ returns-6 c =
     passed-on 28 (among (63 ∷ [])) (next-kind .ensures) (match-on .keys6) refl tt ((string-type2 .ensures .reads) refl)
 
 returns-7 : tie.Need-returns-7
-unfolding table round plan-at idl-prediction choose Knows single recorded
+unfolding table round plan-at idl-prediction choose Knows leaves all-recorded none-recorded
 returns-7 c =
     let next-kind = c .before .before .before .before .before .next-kind in
     let match-on = c .before .before .before .before .match in
@@ -80,7 +76,7 @@ returns-7 c =
     ((word4 .ensures .reads) refl .at-any _)
 
 returns-8 : tie.Need-returns-8
-unfolding table round plan-at idl-prediction choose Knows single recorded
+unfolding table round plan-at idl-prediction choose Knows leaves all-recorded none-recorded
 returns-8 c =
     let next-kind = c .before .before .before .before .before .next-kind in
     let match-on = c .before .before .before .before .match in
@@ -89,7 +85,7 @@ returns-8 c =
     ((word5 .ensures .reads) refl .at-any _)
 
 returns-9 : tie.Need-returns-9
-unfolding table round plan-at idl-prediction choose Knows single recorded
+unfolding table round plan-at idl-prediction choose Knows leaves all-recorded none-recorded
 returns-9 c =
     let next-kind = c .before .before .before .before .before .next-kind in
     let match-on = c .before .before .before .before .match in
@@ -103,7 +99,7 @@ pub const-type-spec : {M : Type 1} → statement M
 const-type-spec =
     tie.close (tie.spec (λ c κs. search needs) (λ c κs. search needs) (λ c κs. search needs)
     (λ c κs. search needs) (λ c κs. search needs) (λ c κs. search needs) (λ c κs. search needs)
-    (λ c κs. search needs) (λ c κs. search needs) (λ c κs. search needs) (λ c κs. search needs)
-    (λ c κs. search needs) (λ c. search needs) returns (λ c. search needs) returns-2 (λ c. search needs)
-    returns-3 (λ c. search needs) returns-4 (λ c. search needs) returns-5 (λ c. search needs) returns-6
-    (λ c. search needs) returns-7 (λ c. search needs) returns-8 (λ c. search needs) returns-9)
+    (λ c κs. search needs) (λ c κs. search needs) (λ c κs. search needs) (λ c. search needs) returns
+    (λ c. search needs) returns-2 (λ c. search needs) returns-3 (λ c. search needs) returns-4
+    (λ c. search needs) returns-5 (λ c. search needs) returns-6 (λ c. search needs) returns-7
+    (λ c. search needs) returns-8 (λ c. search needs) returns-9)

@@ -1,26 +1,41 @@
--- `declarators` reads rule 49 in a frame of its own.
+-- `declarators` reads rule 49 in a frame of its own: a comma tells that there are several, and else it has no record.
 -- Its calls are put together as its plan is. Assumes nothing.
 use Rattle.prediction.specs.Check.{table}
 use Rattle.prediction.specs.Columns.{plan-at, round}
 use Rattle.prediction.specs.IdlPlans.{idl-prediction}
-use Rattle.readers_core.proofs.Frames.{frame}
-use Rattle.readers_core.proofs.Sequence.{_▸_}
+use Rattle.readers_core.proofs.Choosing.{Knows, among, choose, except, goes-on}
+use Rattle.readers_core.proofs.Frames.{chosen, frame}
+use Rattle.readers_core.proofs.Repetition.{once-at-least}
+use Rattle.readers_core.proofs.Sequence.{_▸_, skipped, unrecorded}
+use Rattle.readers_core.proofs.Shapes.{leaves}
+use Rattle.readers_core.specs.Reading.{all-recorded, none-recorded}
 use borrow.Author.Needs.{needs}
+use mathlib.Core.List.{[], _∷_}
 use Rattle.readers_types.proofs.declarators.Statement.{statement}
 use Rattle.readers_types.proofs.declarators.Tie as tie
 
 returns : tie.Need-returns
-unfolding table round plan-at idl-prediction
+unfolding table round plan-at idl-prediction choose Knows goes-on leaves all-recorded none-recorded
 returns c =
-    let enter = c .before .before .before .before .before .before .before .before .before .before .before .before .enter in
-    let declarator = c .before .before .before .before .before .before .before .before .before .before .declarator in
+    let declarator =
+    c .before .before .before .before .before .before .before .before .before .before .before .before .declarator in
+    let next-kind = c .before .before .before .before .before .before .before .before .before .next-kind in
+    let if1 = c .before .before .before .before .before .before .before .before .if1 in
     let further-declarators = c .before .before .before .before .before .before .further-declarators in
-    let leave = c .before .before .leave in
-    frame 49 (enter .ensures)
-    ((declarator .ensures .in-any _) ▸ (further-declarators .ensures .in-any _) ▸
-    (leave .ensures .closes .wraps _ _)) (leave .ensures .joins)
+    let node = c .before .before .node in
+    frame 49 ((declarator .ensures .in-any _ _) ▸ chosen (among (68 ∷ [])) (next-kind .ensures) (if1 .taken)
+    (once-at-least (among (68 ∷ [])) (next-kind .ensures) (if1 .taken) tt (further-declarators .ensures .in-any _ _) ▸
+    (node .ensures .wraps _ _ _ tt)))
+
+returns-2 : tie.Need-returns-2
+unfolding table round plan-at idl-prediction choose Knows goes-on leaves all-recorded none-recorded
+returns-2 c =
+    let declarator = c .before .before .before .before .declarator in
+    let next-kind = c .before .next-kind in
+    frame 49 ((declarator .ensures .in-any _ _) ▸ chosen (except ((68 ∷ []) ∷ [])) (next-kind .ensures)
+    (tt, (c .if1 .left)) (skipped ▸ unrecorded tt))
 
 pub declarators-spec : {M : Type 1} → statement M
 declarators-spec =
     tie.close (tie.spec (λ c κs. search needs) (λ c κs. search needs) (λ c κs. search needs)
-    (λ c κs. search needs) (λ c. search needs) returns)
+    (λ c κs. search needs) (λ c. search needs) returns (λ c. search needs) returns-2)

@@ -5,24 +5,23 @@ use Rattle.prediction.specs.Columns.{plan-at, round}
 use Rattle.prediction.specs.IdlPlans.{idl-prediction}
 use Rattle.readers_core.proofs.Frames.{frame}
 use Rattle.readers_core.proofs.Sequence.{_▸_}
-use Rattle.readers_types.specs.Plans.{enumerators}
+use Rattle.readers_core.proofs.Shapes.{leaves}
+use Rattle.readers_core.specs.Reading.{all-recorded, none-recorded}
 use borrow.Author.Needs.{needs}
 use Rattle.readers_types.proofs.enum_type.Statement.{statement}
 use Rattle.readers_types.proofs.enum_type.Tie as tie
 
 returns : tie.Need-returns
-unfolding table round plan-at idl-prediction
+unfolding table round plan-at idl-prediction leaves all-recorded none-recorded
 returns c =
-    let enter = c .before .before .before .before .before .before .before .before .before .before .enter in
     let take = c .before .before .before .before .before .before .before .before .before .take in
     let take2 = c .before .before .before .before .before .before .before .before .take2 in
     let enumerators = c .before .before .before .before .before .before .enumerators in
-    let leave = c .before .before .leave in
-    frame 78 (enter .ensures)
-    ((take .ensures .reads _ _ .in-any _) ▸ (take2 .ensures .reads _ _ .in-any _) ▸
-    (enumerators .ensures .in-any _) ▸ (leave .ensures .closes .wraps _ _)) (leave .ensures .joins)
+    let node = c .before .before .node in
+    frame 78 ((take .ensures .reads _ _ .in-any _ _) ▸ (take2 .ensures .reads _ _ .in-any _ _) ▸
+    (enumerators .ensures .in-any _ _) ▸ (node .ensures .wraps _ _ _ tt))
 
 pub enum-type-spec : {M : Type 1} → statement M
 enum-type-spec =
     tie.close (tie.spec (λ c κs. search needs) (λ c κs. search needs) (λ c κs. search needs)
-    (λ c κs. search needs) (λ c κs. search needs) (λ c. search needs) returns)
+    (λ c κs. search needs) (λ c. search needs) returns)

@@ -5,19 +5,18 @@ use Rattle.prediction.specs.Columns.{plan-at, round}
 use Rattle.prediction.specs.IdlPlans.{idl-prediction}
 use Rattle.readers_core.proofs.Frames.{frame}
 use Rattle.readers_core.proofs.Sequence.{_▸_}
+use Rattle.readers_core.proofs.Shapes.{leaves}
+use Rattle.readers_core.specs.Reading.{all-recorded, none-recorded}
 use borrow.Author.Needs.{needs}
 use Rattle.readers_types.proofs.fixed_array_size.Statement.{statement}
 use Rattle.readers_types.proofs.fixed_array_size.Tie as tie
 
 returns : tie.Need-returns
-unfolding table round plan-at idl-prediction
+unfolding table round plan-at idl-prediction leaves all-recorded none-recorded
 returns c =
-    let enter = c .before .before .before .before .before .before .before .before .enter in
     let size = c .before .before .before .before .before .before .size in
-    let leave = c .before .before .leave in
-    frame 84 (enter .ensures) ((size .ensures .in-any _) ▸ (leave .ensures .closes .wraps _ _)) (leave .ensures .joins)
+    let node = c .before .before .node in
+    frame 84 ((size .ensures .in-any _ _) ▸ (node .ensures .wraps _ _ _ tt))
 
 pub fixed-array-size-spec : {M : Type 1} → statement M
-fixed-array-size-spec =
-    tie.close (tie.spec (λ c κs. search needs) (λ c κs. search needs) (λ c κs. search needs) (λ c. search needs)
-    returns)
+fixed-array-size-spec = tie.close (tie.spec (λ c κs. search needs) (λ c κs. search needs) (λ c. search needs) returns)

@@ -5,23 +5,22 @@ use Rattle.prediction.specs.Columns.{plan-at, round}
 use Rattle.prediction.specs.IdlPlans.{idl-prediction}
 use Rattle.readers_core.proofs.Frames.{frame}
 use Rattle.readers_core.proofs.Sequence.{_▸_}
-use Rattle.readers_types.specs.Plans.{fixed-bounds}
+use Rattle.readers_core.proofs.Shapes.{leaves}
+use Rattle.readers_core.specs.Reading.{all-recorded, none-recorded}
 use borrow.Author.Needs.{needs}
 use Rattle.readers_types.proofs.fixed_pt_type.Statement.{statement}
 use Rattle.readers_types.proofs.fixed_pt_type.Tie as tie
 
 returns : tie.Need-returns
-unfolding table round plan-at idl-prediction
+unfolding table round plan-at idl-prediction leaves all-recorded none-recorded
 returns c =
-    let enter = c .before .before .before .before .before .before .before .before .before .enter in
     let take = c .before .before .before .before .before .before .before .before .take in
     let fixed-bounds = c .before .before .before .before .before .before .fixed-bounds in
-    let leave = c .before .before .leave in
-    frame 96 (enter .ensures)
-    ((take .ensures .reads _ _ .in-any _) ▸ (fixed-bounds .ensures .in-any _) ▸
-    (leave .ensures .closes .wraps _ _)) (leave .ensures .joins)
+    let node = c .before .before .node in
+    frame 96 ((take .ensures .reads _ _ .in-any _ _) ▸ (fixed-bounds .ensures .in-any _ _) ▸
+    (node .ensures .wraps _ _ _ tt))
 
 pub fixed-pt-type-spec : {M : Type 1} → statement M
 fixed-pt-type-spec =
-    tie.close (tie.spec (λ c κs. search needs) (λ c κs. search needs) (λ c κs. search needs)
-    (λ c κs. search needs) (λ c. search needs) returns)
+    tie.close (tie.spec (λ c κs. search needs) (λ c κs. search needs) (λ c κs. search needs) (λ c. search needs)
+    returns)

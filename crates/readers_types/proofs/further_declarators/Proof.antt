@@ -1,6 +1,5 @@
 -- `further_declarators` reads declarators while a comma stands ahead.
 -- The part read so far as a continuation; what is left to read falls. Assumes nothing.
-use Rattle.grammar.specs.Depth.{depth}
 use Rattle.prediction.specs.Check.{table}
 use Rattle.prediction.specs.Columns.{plan-at, round}
 use Rattle.prediction.specs.IdlPlans.{idl-prediction}
@@ -8,7 +7,7 @@ use Rattle.prediction.specs.Plan.{call, seq, token}
 use Rattle.readers_core.proofs.Choosing.{Knows, among, except, is-over}
 use Rattle.readers_core.proofs.Repetition.{Far, falls, far-here, far-more, far-over, remaining, repeats}
 use Rattle.readers_core.proofs.Sequence.{_▸_}
-use Rattle.readers_core.specs.declared.Reading.{Reading}
+use Prim.Native.Nat.{ℕ}
 use borrow.Author.Needs.{needs}
 use lib.ListN.{length}
 use mathlib.Core.List.{[], _∷_}
@@ -17,12 +16,12 @@ use Rattle.readers_types.proofs.further_declarators.Statement.{statemen
 use Rattle.readers_types.proofs.further_declarators.Tie as tie
 
 abbrev Inv-loop : tie.InvT-loop
-Inv-loop tokens tree₀ depth t₀ tree t =
+Inv-loop tokens tree₀ s depth t₀ tree t =
     (length tree ≡ length tree₀) ×
-    ((start : Reading) → Far tokens depth start (seq (token 68) (call 50)) (t₀, tree₀) (t, tree))
+    ((start : ℕ) → Far tokens depth start (seq (token 68) (call 50)) (s, tree₀) (t, tree))
 
 abbrev μ-loop : tie.MeasureT-loop
-μ-loop tokens tree₀ depth t₀ tree t = remaining tokens t
+μ-loop tokens tree₀ s depth t₀ tree t = remaining tokens t
 
 loop-holds : tie.Need-loop-holds Inv-loop μ-loop
 loop-holds c = (refl, λ start. far-here)
@@ -36,7 +35,7 @@ loop-less c =
     let take = c .before .before .before .before .take in
     let declarator = c .before .before .declarator in
     falls {start = (loop .t)} (among (68 ∷ [])) (next-kind .ensures) (if1 .taken) tt
-    ((take .ensures .reads _ _ .in-any _) ▸ (declarator .ensures .in-any _))
+    (λ hs. (take .ensures .reads _ _ .in-any _ _) ▸ (declarator .ensures .in-any _ _))
 
 loop-again : tie.Need-loop-again Inv-loop μ-loop
 unfolding table round plan-at idl-prediction Knows repeats is-over
@@ -48,7 +47,7 @@ loop-again c =
     let declarator = c .before .before .declarator in (
       (declarator .kept .1 .0) ∙ (loop .inv .0),
       λ start. far-more (among (68 ∷ [])) (next-kind .ensures) (if1 .taken)
-          tt ((take .ensures .reads _ _ .in-any _) ▸ (declarator .ensures .in-any _)) ((loop .inv .1) start),
+          tt (λ hs. (take .ensures .reads _ _ .in-any _ _) ▸ (declarator .ensures .in-any _ _)) ((loop .inv .1) start),
     )
 
 returns : tie.Need-returns Inv-loop μ-loop
@@ -57,8 +56,8 @@ returns c =
     let loop = c .before .before .loop in
     let next-kind = c .before .next-kind in
     record {
-      in-any = λ start. far-over (except ((68 ∷ []) ∷ [])) (next-kind .ensures) (tt, (c .if1 .left)) tt
-          ((loop .inv .1) start);
+      in-any = λ start hs. far-over (except ((68 ∷ []) ∷ [])) (next-kind .ensures) (tt, (c .if1 .left)) tt
+          ((loop .inv .1) start) hs;
     }
 
 pub further-declarators-spec : {M : Type 1} → statement M

@@ -8,7 +8,6 @@ use Rattle.prediction.specs.Plan.{call, seq, token}
 use Rattle.readers_core.proofs.Choosing.{Knows, among, except, is-over}
 use Rattle.readers_core.proofs.Repetition.{Far, falls, far-here, far-more, far-over, remaining, repeats}
 use Rattle.readers_core.proofs.Sequence.{_▸_}
-use Rattle.readers_core.specs.declared.Reading.{Reading}
 use borrow.Author.Needs.{needs}
 use lib.ListN.{length}
 use mathlib.Core.List.{[], _∷_}
@@ -17,12 +16,12 @@ use Rattle.readers_types.proofs.further_enumerators.Statement.{statemen
 use Rattle.readers_types.proofs.further_enumerators.Tie as tie
 
 abbrev Inv-loop : tie.InvT-loop
-Inv-loop tokens tree₀ t₀ tree t =
+Inv-loop tokens tree₀ s t₀ tree t =
     (length tree ≡ length tree₀) ×
-    ((d : ℕ) (start : Reading) → Far tokens d start (seq (token 68) (call 79)) (t₀, tree₀) (t, tree))
+    ((d : ℕ) (start : ℕ) → Far tokens d start (seq (token 68) (call 79)) (s, tree₀) (t, tree))
 
 abbrev μ-loop : tie.MeasureT-loop
-μ-loop tokens tree₀ t₀ tree t = remaining tokens t
+μ-loop tokens tree₀ s t₀ tree t = remaining tokens t
 
 loop-holds : tie.Need-loop-holds Inv-loop μ-loop
 loop-holds c = (refl, λ d start. far-here)
@@ -36,7 +35,7 @@ loop-less c =
     let take = c .before .before .before .before .take in
     let word = c .before .before .word in
     falls {d = 0} {start = (loop .t)} (among (68 ∷ [])) (next-kind .ensures) (if1 .taken) tt
-    ((take .ensures .reads _ _ .in-any _) ▸ ((word .ensures .reads) refl .at-any _ .in-any _))
+    (λ hs. (take .ensures .reads _ _ .in-any _ _) ▸ ((word .ensures .reads) refl .at-any _ .in-any _ _))
 
 loop-again : tie.Need-loop-again Inv-loop μ-loop
 unfolding table round plan-at idl-prediction Knows repeats is-over
@@ -48,7 +47,7 @@ loop-again c =
     let word = c .before .before .word in (
       (word .kept .1 .0) ∙ (loop .inv .0),
       λ d start. far-more (among (68 ∷ [])) (next-kind .ensures) (if1 .taken) tt
-          ((take .ensures .reads _ _ .in-any _) ▸ ((word .ensures .reads) refl .at-any _ .in-any _))
+          (λ hs. (take .ensures .reads _ _ .in-any _ _) ▸ ((word .ensures .reads) refl .at-any _ .in-any _ _))
           ((loop .inv .1) d start),
     )
 
@@ -60,8 +59,8 @@ returns c =
     record {
       at-any =
           λ d. record {
-            in-any = λ start. far-over (except ((68 ∷ []) ∷ [])) (next-kind .ensures) (tt, (c .if1 .left)) tt
-                ((loop .inv .1) d start);
+            in-any = λ start hs. far-over (except ((68 ∷ []) ∷ [])) (next-kind .ensures) (tt, (c .if1 .left)) tt
+                ((loop .inv .1) d start) hs;
           };
     }
 

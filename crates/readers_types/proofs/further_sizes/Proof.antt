@@ -1,13 +1,12 @@
 -- `further_sizes` reads sizes while an opening bracket stands ahead.
 -- The part read so far as a continuation; what is left to read falls. Assumes nothing.
-use Rattle.grammar.specs.Depth.{depth}
 use Rattle.prediction.specs.Check.{table}
 use Rattle.prediction.specs.Columns.{plan-at, round}
 use Rattle.prediction.specs.IdlPlans.{idl-prediction}
 use Rattle.prediction.specs.Plan.{call}
 use Rattle.readers_core.proofs.Choosing.{Knows, among, except, is-over}
 use Rattle.readers_core.proofs.Repetition.{Far, falls, far-here, far-more, far-over, remaining, repeats}
-use Rattle.readers_core.specs.declared.Reading.{Reading}
+use Prim.Native.Nat.{ℕ}
 use borrow.Author.Needs.{needs}
 use lib.ListN.{length}
 use mathlib.Core.List.{[], _∷_}
@@ -16,11 +15,11 @@ use Rattle.readers_types.proofs.further_sizes.Statement.{statement}
 use Rattle.readers_types.proofs.further_sizes.Tie as tie
 
 abbrev Inv-loop : tie.InvT-loop
-Inv-loop tokens tree₀ depth t₀ tree t =
-    (length tree ≡ length tree₀) × ((start : Reading) → Far tokens depth start (call 84) (t₀, tree₀) (t, tree))
+Inv-loop tokens tree₀ s depth t₀ tree t =
+    (length tree ≡ length tree₀) × ((start : ℕ) → Far tokens depth start (call 84) (s, tree₀) (t, tree))
 
 abbrev μ-loop : tie.MeasureT-loop
-μ-loop tokens tree₀ depth t₀ tree t = remaining tokens t
+μ-loop tokens tree₀ s depth t₀ tree t = remaining tokens t
 
 loop-holds : tie.Need-loop-holds Inv-loop μ-loop
 loop-holds c = (refl, λ start. far-here)
@@ -33,7 +32,7 @@ loop-less c =
     let if1 = c .before .before .before .before .if1 in
     let fixed-array-size = c .before .before .fixed-array-size in
     falls {start = (loop .t)} (among (75 ∷ [])) (next-kind .ensures) (if1 .taken) tt
-    (fixed-array-size .ensures .in-any _)
+    (λ hs. fixed-array-size .ensures .in-any _ _)
 
 loop-again : tie.Need-loop-again Inv-loop μ-loop
 unfolding table round plan-at idl-prediction Knows repeats is-over
@@ -44,7 +43,7 @@ loop-again c =
     let fixed-array-size = c .before .before .fixed-array-size in (
       (fixed-array-size .kept .1 .0) ∙ (loop .inv .0),
       λ start. far-more (among (75 ∷ [])) (next-kind .ensures)
-          (if1 .taken) tt (fixed-array-size .ensures .in-any _) ((loop .inv .1) start),
+          (if1 .taken) tt (λ hs. fixed-array-size .ensures .in-any _ _) ((loop .inv .1) start),
     )
 
 returns : tie.Need-returns Inv-loop μ-loop
@@ -53,8 +52,8 @@ returns c =
     let loop = c .before .before .loop in
     let next-kind = c .before .next-kind in
     record {
-      in-any = λ start. far-over (except ((75 ∷ []) ∷ [])) (next-kind .ensures) (tt, (c .if1 .left)) tt
-          ((loop .inv .1) start);
+      in-any = λ start hs. far-over (except ((75 ∷ []) ∷ [])) (next-kind .ensures) (tt, (c .if1 .left)) tt
+          ((loop .inv .1) start) hs;
     }
 
 pub further-sizes-spec : {M : Type 1} → statement M

@@ -16,16 +16,15 @@ returns c =
     let take = c .before .before .before .before .take in
     let positive-int-const = c .before .before .positive-int-const in
     record {
-      in-any =
-          λ start. chosen (among (68 ∷ [])) (next-kind .ensures) (if1 .taken)
-          ((take .ensures .reads _ _ .in-any _) ▸ (positive-int-const .ensures .in-any _));
+      in-any = λ start hs. chosen (among (68 ∷ [])) (next-kind .ensures) (if1 .taken)
+          ((take .ensures .reads _ _ .in-any _ _) ▸ (positive-int-const .ensures .in-any _ _));
     }
 
 returns-2 : tie.Need-returns-2
 unfolding choose Knows
 returns-2 c =
     let next-kind = c .before .next-kind in
-    record { in-any = λ start. chosen (except ((68 ∷ []) ∷ [])) (next-kind .ensures) (tt, (c .if1 .left)) skipped }
+    record { in-any = λ start hs. chosen (except ((68 ∷ []) ∷ [])) (next-kind .ensures) (tt, (c .if1 .left)) skipped }
 
 pub sequence-bound-spec : {M : Type 1} → statement M
 sequence-bound-spec =

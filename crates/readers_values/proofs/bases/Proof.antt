@@ -20,8 +20,8 @@ returns c =
     record {
       at-any =
           λ d. record {
-            in-any = λ start. chosen (among (54 ∷ 67 ∷ [])) (next-kind .ensures) (match-on .keys1)
-                (value-inheritance-spec .ensures .at-any _ .in-any _);
+            in-any = λ start hs. chosen (among (54 ∷ 67 ∷ [])) (next-kind .ensures) (match-on .keys1)
+                (value-inheritance-spec .ensures .at-any _ .in-any _ _);
           };
     }
 
@@ -32,11 +32,10 @@ returns-2 c =
     record {
       at-any =
           λ d. record {
-            in-any = λ start. chosen (except ((54 ∷ 67 ∷ []) ∷ [])) (next-kind .ensures) (c .match .rest)
+            in-any = λ start hs. chosen (except ((54 ∷ 67 ∷ []) ∷ [])) (next-kind .ensures) (c .match .rest)
                 skipped;
           };
     }
 
 pub bases-spec : {M : Type 1} → statement M
-bases-spec =
-    tie.close (tie.spec (λ c κs. search needs) (λ c κs. search needs) (λ c. search needs) returns returns-2)
+bases-spec = tie.close (tie.spec (λ c κs. search needs) (λ c κs. search needs) (λ c. search needs) returns returns-2)

@@ -8,24 +8,26 @@ use Rattle.readers_core.proofs.Frames.{chosen}
 use Rattle.readers_core.proofs.Sequence.{_▸_}
 use Rattle.readers_structs.proofs.Starts.{is-in, is-out}
 use Rattle.readers_structs.specs.Plans.{type-starts}
+use Rattle.readers_core.proofs.Shapes.{leaves}
+use Rattle.readers_core.specs.Reading.{all-recorded, none-recorded}
 use borrow.Author.Needs.{needs}
 use mathlib.Core.List.{[], _∷_}
 use Rattle.readers_values.proofs.behind_name.Statement.{statement}
 use Rattle.readers_values.proofs.behind_name.Tie as tie
 
 returns : tie.Need-returns
-unfolding table round plan-at idl-prediction choose Knows
+unfolding table round plan-at idl-prediction choose Knows leaves all-recorded none-recorded
 returns c =
     let next-kind = c .before .before .before .before .before .before .before .before .before .before .next-kind in
     let starts-type = c .before .before .before .before .before .before .before .before .before .starts-type in
     let if1 = c .before .before .before .before .before .before .before .before .if1 in
     let type-spec = c .before .before .before .before .before .before .type-spec in
-    let close = c .before .before .close in
+    let node = c .before .before .node in
     chosen (among type-starts) (next-kind .ensures) (is-in type-starts _ (starts-type .ensures) (if1 .taken))
-    ((type-spec .ensures .in-any _) ▸ (close .ensures .wraps _ _))
+    ((type-spec .ensures .in-any _ _) ▸ (node .ensures .wraps _ _ _ tt))
 
 returns-2 : tie.Need-returns-2
-unfolding table round plan-at idl-prediction choose Knows
+unfolding table round plan-at idl-prediction choose Knows leaves all-recorded none-recorded
 returns-2 c =
     let next-kind = c .before .before .before .before .before .before .before .next-kind in
     let match-on = c .before .before .before .before .match in
@@ -33,15 +35,15 @@ returns-2 c =
     chosen (among (54 ∷ 65 ∷ 67 ∷ [])) (next-kind .ensures) (match-on .keys1) (value-dcl .ensures)
 
 returns-3 : tie.Need-returns-3
-unfolding table round plan-at idl-prediction choose Knows
+unfolding table round plan-at idl-prediction choose Knows leaves all-recorded none-recorded
 returns-3 c =
     let next-kind = c .before .before .before .before .before .before .before .next-kind in
     let starts-type = c .before .before .before .before .before .before .starts-type in
     let if1 = c .before .before .before .before .before .if1 in
     let match-on = c .before .before .before .before .match in
-    let close2 = c .before .before .close2 in
+    let node2 = c .before .before .node2 in
     chosen (except ((54 ∷ 65 ∷ 67 ∷ []) ∷ type-starts ∷ [])) (next-kind .ensures)
-    (is-out type-starts _ (starts-type .ensures) (if1 .left), (match-on .rest .1)) (close2 .ensures .wraps _ _)
+    (is-out type-starts _ (starts-type .ensures) (if1 .left), (match-on .rest .1)) (node2 .ensures .wraps _ _ _ tt)
 
 pub behind-name-spec : {M : Type 1} → statement M
 behind-name-spec =

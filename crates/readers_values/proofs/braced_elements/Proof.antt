@@ -1,8 +1,8 @@
 -- `braced_elements` reads elements between braces, at one level of depth less.
 -- By the opening mark: it stops there, or the body and its closing mark follow. Assumes nothing.
-use Rattle.prediction.specs.Equivalence.{opened}
 use Rattle.readers_core.proofs.Groups.{grouped, level, shut-out}
 use Rattle.readers_core.proofs.Sequence.{_▸_}
+use Rattle.readers_core.proofs.Views.{going-if, stopped-if}
 use borrow.Author.Needs.{needs}
 use native.Mathlib.Omega.{arith}
 use Rattle.readers_values.proofs.braced_elements.Statement.{statement}
@@ -10,25 +10,32 @@ use Rattle.readers_values.proofs.braced_elements.Tie as tie
 
 returns : tie.Need-returns
 returns c =
-    let opened = c .before .before .«open» in
-    record { in-any = λ start. shut-out (opened .ensures) (λ z. omega arith) }
+    let opening = c .before .before .«open» in
+    let has-stopped = c .before .has-stopped in
+    record {
+      in-any =
+          λ start hs. shut-out (opening .ensures) (stopped-if (opening .result) (has-stopped .ensures) (c .if1 .taken));
+    }
 
 sub-elements : tie.Need-sub-elements
 sub-elements c =
-    let opened = c .before .before .before .«open» in
-    let h = level (opened .ensures) (omega arith) in omega arith
+    let opening = c .before .before .before .«open» in
+    let has-stopped = c .before .before .has-stopped in
+    let if1 = c .before .if1 in
+    let h = level (opening .ensures) (going-if (opening .result) (has-stopped .ensures) (if1 .left)) in omega arith
 
 returns-2 : tie.Need-returns-2
 returns-2 c =
-    let opened = c .before .before .before .before .before .before .before .«open» in
+    let opening = c .before .before .before .before .before .before .before .«open» in
+    let has-stopped = c .before .before .before .before .before .before .has-stopped in
+    let if1 = c .before .before .before .before .before .if1 in
     let elements = c .before .before .before .elements in
     record {
-      in-any =
-          λ start. grouped (opened .ensures) (omega arith)
-          ((elements .ensures .in-any _) ▸ (c .take .ensures .reads _ _ .in-any _));
+      in-any = λ start hs. grouped (opening .ensures) (going-if (opening .result) (has-stopped .ensures) (if1 .left))
+          ((elements .ensures .in-any _ _) ▸ (c .take .ensures .reads _ _ .in-any _ _));
     }
 
 pub braced-elements-spec : {M : Type 1} → statement M
 braced-elements-spec =
-    tie.close (tie.spec (λ c κs. search needs) returns sub-elements (λ c κs. search needs)
-    (λ c κs. search needs) (λ c. search needs) returns-2)
+    tie.close (tie.spec (λ c κs. search needs) (λ c κs. search needs) returns sub-elements
+    (λ c κs. search needs) (λ c κs. search needs) (λ c. search needs) returns-2)

@@ -6,7 +6,7 @@ use Rattle.prediction.specs.IdlPlans.{idl-prediction}
 use Rattle.prediction.specs.Plan.{call}
 use Rattle.readers_core.proofs.Choosing.{Knows, among, except, is-over}
 use Rattle.readers_core.proofs.Repetition.{Far, falls, far-here, far-more, far-over, remaining, repeats}
-use Rattle.readers_core.specs.declared.Reading.{Reading}
+use Prim.Native.Nat.{ℕ}
 use Rattle.readers_structs.proofs.Starts.{is-in, is-out}
 use Rattle.readers_values.specs.Plans.{element-starts}
 use borrow.Author.Needs.{needs}
@@ -17,11 +17,11 @@ use Rattle.readers_values.proofs.elements.Statement.{statement}
 use Rattle.readers_values.proofs.elements.Tie as tie
 
 abbrev Inv-loop : tie.InvT-loop
-Inv-loop tokens tree₀ d t₀ tree t =
-    (length tree ≡ length tree₀) × ((start : Reading) → Far tokens d start (call 21) (t₀, tree₀) (t, tree))
+Inv-loop tokens tree₀ s d t₀ tree t =
+    (length tree ≡ length tree₀) × ((start : ℕ) → Far tokens d start (call 21) (s, tree₀) (t, tree))
 
 abbrev μ-loop : tie.MeasureT-loop
-μ-loop tokens tree₀ d t₀ tree t = remaining tokens t
+μ-loop tokens tree₀ s d t₀ tree t = remaining tokens t
 
 loop-holds : tie.Need-loop-holds Inv-loop μ-loop
 loop-holds c = (refl, λ start. far-here)
@@ -35,7 +35,7 @@ loop-less c =
     let if1 = c .before .before .before .before .if1 in
     let value-element = c .before .before .value-element in
     falls {start = (loop .t)} (among element-starts) (next-kind .ensures)
-    (is-in element-starts _ (starts-element .ensures) (if1 .taken)) tt (value-element .ensures .in-any _)
+    (is-in element-starts _ (starts-element .ensures) (if1 .taken)) tt (λ hs. value-element .ensures .in-any _ hs)
 
 loop-again : tie.Need-loop-again Inv-loop μ-loop
 unfolding table round plan-at idl-prediction Knows repeats is-over
@@ -47,7 +47,7 @@ loop-again c =
     let value-element = c .before .before .value-element in (
       (value-element .kept .1 .0) ∙ (loop .inv .0),
       λ start. far-more (among element-starts) (next-kind .ensures)
-          (is-in element-starts _ (starts-element .ensures) (if1 .taken)) tt (value-element .ensures .in-any _)
+          (is-in element-starts _ (starts-element .ensures) (if1 .taken)) tt (λ hs. value-element .ensures .in-any _ hs)
           ((loop .inv .1) start),
     )
 
@@ -58,8 +58,7 @@ returns c =
     let next-kind = c .before .before .next-kind in
     let starts-element = c .before .starts-element in
     record {
-      in-any =
-          λ start. far-over (except (element-starts ∷ [])) (next-kind .ensures)
+      in-any = λ start. far-over (except (element-starts ∷ [])) (next-kind .ensures)
           (is-out element-starts _ (starts-element .ensures) (c .if1 .left)) tt ((loop .inv .1) start);
     }
 

@@ -17,10 +17,10 @@ returns c =
     record {
       at-any =
           λ d. record {
-            in-any =
-                λ start. (take .ensures .reads _ _ .in-any _) ▸ (truncatable .ensures .reads _ _ .in-any _) ▸
-                ((scoped-names .ensures .by-rule) 20 value-names .at-any d .in-any _ ▸▸
-                (supported .ensures .at-any _ .in-any _));
+            in-any = λ start hs. (take .ensures .reads _ _ .in-any _ _) ▸
+                (truncatable .ensures .reads _ _ .in-any _ _) ▸
+                ((scoped-names .ensures .by-rule) 20 value-names .at-any d .in-any _ _ ▸▸
+                (supported .ensures .at-any _ .in-any _ _));
           };
     }
 

@@ -18,15 +18,15 @@ returns c =
     let match-on = c .before .before .before .before .match in
     let init-param-decls = c .before .before .init-param-decls in
     record {
-      in-any = λ start. chosen (among (36 ∷ [])) (next-kind .ensures) (match-on .keys1)
-          (init-param-decls .ensures .in-any _);
+      in-any = λ start hs. chosen (among (36 ∷ [])) (next-kind .ensures) (match-on .keys1)
+          (init-param-decls .ensures .in-any _ _);
     }
 
 returns-2 : tie.Need-returns-2
 unfolding table round plan-at idl-prediction choose Knows
 returns-2 c =
     let next-kind = c .before .next-kind in
-    record { in-any = λ start. chosen (except ((36 ∷ []) ∷ [])) (next-kind .ensures) (c .match .rest) skipped }
+    record { in-any = λ start hs. chosen (except ((36 ∷ []) ∷ [])) (next-kind .ensures) (c .match .rest) skipped }
 
 pub parameters-spec : {M : Type 1} → statement M
 parameters-spec =

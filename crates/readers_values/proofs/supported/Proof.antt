@@ -6,7 +6,6 @@ use Rattle.prediction.specs.IdlPlans.{idl-prediction}
 use Rattle.readers_core.proofs.Choosing.{Knows, among, choose, except}
 use Rattle.readers_core.proofs.Frames.{chosen}
 use Rattle.readers_core.proofs.Sequence.{skipped}
-use Rattle.readers_values.specs.Plans.{supports}
 use borrow.Author.Needs.{needs}
 use mathlib.Core.List.{[], _∷_}
 use Rattle.readers_values.proofs.supported.Statement.{statement}
@@ -21,8 +20,8 @@ returns c =
     record {
       at-any =
           λ d. record {
-            in-any = λ start. chosen (among (54 ∷ [])) (next-kind .ensures) (match-on .keys1)
-                (supports .ensures .at-any _ .in-any _);
+            in-any = λ start hs. chosen (among (54 ∷ [])) (next-kind .ensures) (match-on .keys1)
+                (supports .ensures .at-any _ .in-any _ _);
           };
     }
 
@@ -33,7 +32,7 @@ returns-2 c =
     record {
       at-any =
           λ d. record {
-            in-any = λ start. chosen (except ((54 ∷ []) ∷ [])) (next-kind .ensures) (c .match .rest) skipped;
+            in-any = λ start hs. chosen (except ((54 ∷ []) ∷ [])) (next-kind .ensures) (c .match .rest) skipped;
           };
     }
 

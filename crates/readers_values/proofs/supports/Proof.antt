@@ -13,11 +13,10 @@ returns c =
     record {
       at-any =
           λ d. record {
-            in-any = λ start. (take .ensures .reads _ _ .in-any _) ▸ (scoped-names .ensures .by-rule) 11
-                interface-names .at-any d .in-any _;
+            in-any = λ start hs. (take .ensures .reads _ _ .in-any _ _) ▸ (scoped-names .ensures .by-rule) 11
+                interface-names .at-any d .in-any _ _;
           };
     }
 
 pub supports-spec : {M : Type 1} → statement M
-supports-spec =
-    tie.close (tie.spec (λ c κs. search needs) (λ c κs. search needs) (λ c. search needs) returns)
+supports-spec = tie.close (tie.spec (λ c κs. search needs) (λ c κs. search needs) (λ c. search needs) returns)

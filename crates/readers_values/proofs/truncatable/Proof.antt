@@ -16,8 +16,8 @@ returns c =
     record {
       reads =
           λ d w. record {
-            in-any = λ start. chosen (among (56 ∷ [])) (next-kind .ensures) (match-on .keys1)
-                (c .take .ensures .reads _ _ .in-any _);
+            in-any = λ start hs. chosen (among (56 ∷ [])) (next-kind .ensures) (match-on .keys1)
+                (c .take .ensures .reads _ _ .in-any _ _);
           };
     }
 
@@ -28,7 +28,7 @@ returns-2 c =
     record {
       reads =
           λ d w. record
-          { in-any = λ start. chosen (except ((56 ∷ []) ∷ [])) (next-kind .ensures) (c .match .rest) skipped };
+          { in-any = λ start hs. chosen (except ((56 ∷ []) ∷ [])) (next-kind .ensures) (c .match .rest) skipped };
     }
 
 pub truncatable-spec : {M : Type 1} → statement M

@@ -1,21 +1,24 @@
 -- `value` reads by its plan.
--- Its calls are put together as its plan is. Assumes nothing.
-use Rattle.readers_core.proofs.Sequence.{_▸_}
-use Rattle.readers_values.specs.Plans.{behind-name}
+-- Its calls are put together as its plan is; rule 13 leaves no record. Assumes nothing.
+use Rattle.readers_core.proofs.Sequence.{_▸_, unrecorded}
+use Rattle.readers_core.proofs.Shapes.{leaves}
+use Rattle.readers_core.specs.Reading.{all-recorded, none-recorded}
 use borrow.Author.Needs.{needs}
 use Rattle.readers_values.proofs.value.Statement.{statement}
 use Rattle.readers_values.proofs.value.Tie as tie
 
 returns : tie.Need-returns
+unfolding leaves all-recorded none-recorded
 returns c =
-    let take = c .before .before .before .before .before .before .before .before .before .take in
-    let take2 = c .before .before .before .before .before .before .before .before .take2 in
-    let behind-name = c .before .before .before .before .before .before .behind-name in
-    let close = c .before .before .close in
-    (take .ensures .reads _ _ .in-any _) ▸ (take2 .ensures .reads _ _ .in-any _) ▸ (behind-name .ensures) ▸
-    (close .ensures .wraps _ _)
+    let take = c .before .before .before .before .before .take in
+    let take2 = c .before .before .before .before .take2 in
+    let behind-name = c .before .before .behind-name in
+    record {
+      of-any = λ hs. (take .ensures .reads _ _ .in-any _ _) ▸ (take2 .ensures .reads _ _ .in-any _ _) ▸
+          (behind-name .ensures) ▸ unrecorded tt;
+    }
 
 pub value-spec : {M : Type 1} → statement M
 value-spec =
-    tie.close (tie.spec (λ c κs. search needs) (λ c κs. search needs) (λ c κs. search needs)
-    (λ c κs. search needs) (λ c. search needs) returns)
+    tie.close (tie.spec (λ c κs. search needs) (λ c κs. search needs) (λ c κs. search needs) (λ c. search needs)
+    returns)

@@ -1,11 +1,12 @@
 -- `value_element` reads rule 21, which passes another rule's node on.
 -- The kind ahead tells which. Assumes nothing.
-use Rattle.grammar.specs.Record.{recorded}
 use Rattle.prediction.specs.Check.{table}
 use Rattle.prediction.specs.Columns.{plan-at, round}
 use Rattle.prediction.specs.IdlPlans.{idl-prediction}
-use Rattle.readers_core.proofs.Chain.{passed-on, single}
+use Rattle.readers_core.proofs.Frames.{passed-on}
 use Rattle.readers_core.proofs.Choosing.{Knows, among, choose, except}
+use Rattle.readers_core.proofs.Shapes.{leaves}
+use Rattle.readers_core.specs.Reading.{all-recorded, none-recorded}
 use borrow.Author.Needs.{needs}
 use mathlib.Core.List.{[], _∷_}
 use mathlib.Core.Path.{refl}
@@ -13,7 +14,7 @@ use Rattle.readers_values.proofs.value_element.Statement.{statement}
 use Rattle.readers_values.proofs.value_element.Tie as tie
 
 returns : tie.Need-returns
-unfolding table round plan-at idl-prediction choose Knows single recorded
+unfolding table round plan-at idl-prediction choose Knows leaves all-recorded none-recorded
 returns c =
     let next-kind = c .before .before .before .before .before .next-kind in
     let match-on = c .before .before .before .before .match in
@@ -21,7 +22,7 @@ returns c =
     passed-on 21 (among (47 ∷ [])) (next-kind .ensures) (match-on .keys1) refl tt ((state-member .ensures))
 
 returns-2 : tie.Need-returns-2
-unfolding table round plan-at idl-prediction choose Knows single recorded
+unfolding table round plan-at idl-prediction choose Knows leaves all-recorded none-recorded
 returns-2 c =
     let next-kind = c .before .before .before .before .before .next-kind in
     let match-on = c .before .before .before .before .match in
@@ -29,7 +30,7 @@ returns-2 c =
     passed-on 21 (among (46 ∷ [])) (next-kind .ensures) (match-on .keys2) refl tt ((state-member2 .ensures))
 
 returns-3 : tie.Need-returns-3
-unfolding table round plan-at idl-prediction choose Knows single recorded
+unfolding table round plan-at idl-prediction choose Knows leaves all-recorded none-recorded
 returns-3 c =
     let next-kind = c .before .before .before .before .before .next-kind in
     let match-on = c .before .before .before .before .match in
@@ -37,7 +38,7 @@ returns-3 c =
     passed-on 21 (among (33 ∷ [])) (next-kind .ensures) (match-on .keys3) refl tt ((init-dcl .ensures))
 
 returns-4 : tie.Need-returns-4
-unfolding table round plan-at idl-prediction choose Knows single recorded
+unfolding table round plan-at idl-prediction choose Knows leaves all-recorded none-recorded
 returns-4 c =
     let next-kind = c .before .before .before .before .before .next-kind in
     let match-on = c .before .before .before .before .match in

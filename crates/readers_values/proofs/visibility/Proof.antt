@@ -15,8 +15,8 @@ returns c =
     record {
       reads =
           λ d w. record {
-            in-any = λ start. chosen (among (47 ∷ [])) (next-kind .ensures) (match-on .keys1)
-                (c .take .ensures .reads _ _ .in-any _);
+            in-any = λ start hs. chosen (among (47 ∷ [])) (next-kind .ensures) (match-on .keys1)
+                (c .take .ensures .reads _ _ .in-any _ _);
           };
     }
 
@@ -28,8 +28,8 @@ returns-2 c =
     record {
       reads =
           λ d w. record {
-            in-any = λ start. chosen (except ((47 ∷ []) ∷ [])) (next-kind .ensures) (match-on .rest)
-                (c .take2 .ensures .reads _ _ .in-any _);
+            in-any = λ start hs. chosen (except ((47 ∷ []) ∷ [])) (next-kind .ensures) (match-on .rest)
+                (c .take2 .ensures .reads _ _ .in-any _ _);
           };
     }
 

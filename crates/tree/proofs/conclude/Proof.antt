@@ -1,9 +1,15 @@
 -- `conclude` meets its contract: each way out is a case of the definition.
 -- What was tested decides the case. Assumes nothing.
+use Rattle.readers_core.proofs.Views.{deep-as}
+use Rattle.readers_core.specs.Reading.{view}
+use Rattle.tables.specs.Tables.{capacity, node-width}
 use Rattle.tree.specs.Conclusion.{concluded, kept-tree}
 use borrow.Author.Needs.{needs}
-use borrow.Author.Tests.{eq-eqb, le-ltb, lt-ltb, ne-eqb}
-use mathlib.Core.Path.{_∙_, sym}
+use borrow.Author.Tests.{le-ltb, lt-ltb}
+use lib.Dec.{eqb, ltb}
+use mathlib.Core.Bool.{false, true}
+use mathlib.Core.Path.{_∙_, _≡_, subst, sym}
+use Prim.Native.Nat.{_<_, _≤_, ℕ}
 use Rattle.tree.proofs.conclude.Statement.{statement}
 use Rattle.tree.proofs.conclude.Tie as tie
 
@@ -12,49 +18,66 @@ unfolding concluded kept-tree
 returns c =
     let at-clear = c .before .before .before in
     let at-if2 = at-clear .before .before in
-    let at-if1 = at-if2 .before .before in
-    let at-is-complete = at-if1 .before in
-    let whole = sym (at-is-complete .is-complete .ensures) ∙ at-if1 .if1 .taken in (
-      (c .more-records .ensures) ∙ simp (whole, lt-ltb _ _ (at-if2 .if2 .taken)),
-      (at-clear .clear .ensures) ∙ simp (whole, lt-ltb _ _ (at-if2 .if2 .taken)),
+    let at-records = at-if2 .before in
+    let at-if1 = at-records .before in
+    let whole = sym (at-if1 .before .is-complete .ensures) ∙ at-if1 .if1 .taken in
+    let needed = at-records .records .ensures in
+    let args = at-if1 .before .before .before .before .args in
+    let full : ltb (capacity node-width (args .tree .now)) (view (args .s) .count) ≡ true =
+    lt-ltb _ _ (subst (λ (n : ℕ). capacity node-width (args .tree .now) < n) needed (at-if2 .if2 .taken)) in (
+      (c .more-records .ensures) ∙ simp (whole, needed, full),
+      (at-clear .clear .ensures) ∙ simp (whole, full),
     )
 
 returns-2 : tie.Need-returns-2
 unfolding concluded kept-tree
 returns-2 c =
-    let at-if1 = c .before .before .before in
-    let at-is-complete = at-if1 .before in
-    let whole = sym (at-is-complete .is-complete .ensures) ∙ at-if1 .if1 .taken in (
-      (c .accepted .ensures) ∙ simp (whole, le-ltb _ _ (c .before .if2 .left)),
-      simp (whole, le-ltb _ _ (c .before .if2 .left)),
+    let at-records = c .before .before in
+    let at-if1 = at-records .before in
+    let whole = sym (at-if1 .before .is-complete .ensures) ∙ at-if1 .if1 .taken in
+    let needed = at-records .records .ensures in
+    let args = at-if1 .before .before .before .before .args in
+    let room : ltb (capacity node-width (args .tree .now)) (view (args .s) .count) ≡ false =
+    le-ltb _ _ (subst (λ (n : ℕ). n ≤ capacity node-width (args .tree .now)) needed (c .before .if2 .left)) in (
+      (c .accepted .ensures) ∙ simp (whole, needed, room),
+      simp (whole, room),
     )
 
 returns-3 : tie.Need-returns-3
 unfolding concluded kept-tree
 returns-3 c =
-    let at-place-of = c .before .before .before in
-    let at-clear2 = at-place-of .before .before .before in
+    let at-is-too-deep = c .before .before in
+    let at-place-of = at-is-too-deep .before in
+    let at-place = at-place-of .before in
+    let at-clear2 = at-place .before .before .before in
     let at-if1 = at-clear2 .before .before in
-    let at-is-complete = at-if1 .before in
-    let whole = sym (at-is-complete .is-complete .ensures) ∙ at-if1 .if1 .left in (
-      (c .too-deep .ensures) ∙ simp (at-place-of .place-of .ensures, whole, eq-eqb _ _ (c .before .if3 .taken)),
+    let whole = sym (at-if1 .before .is-complete .ensures) ∙ at-if1 .if1 .left in
+    let args = at-if1 .before .before .before .before .args in
+    let deep : eqb (view (args .s) .answer) 8 ≡ true =
+    sym (deep-as (args .s)) ∙ sym (at-is-too-deep .is-too-deep .ensures) ∙ c .before .if3 .taken in (
+      (c .too-deep .ensures) ∙ simp (at-place-of .place-of .ensures, at-place .place .ensures, whole, deep),
       (at-clear2 .clear2 .ensures) ∙ simp (whole),
     )
 
 returns-4 : tie.Need-returns-4
 unfolding concluded kept-tree
 returns-4 c =
-    let at-place-of = c .before .before .before in
-    let at-clear2 = at-place-of .before .before .before in
+    let at-is-too-deep = c .before .before in
+    let at-place-of = at-is-too-deep .before in
+    let at-place = at-place-of .before in
+    let at-clear2 = at-place .before .before .before in
     let at-if1 = at-clear2 .before .before in
-    let at-is-complete = at-if1 .before in
-    let whole = sym (at-is-complete .is-complete .ensures) ∙ at-if1 .if1 .left in (
-      (c .grammar .ensures) ∙ simp (at-place-of .place-of .ensures, whole, ne-eqb _ _ (c .before .if3 .left)),
+    let whole = sym (at-if1 .before .is-complete .ensures) ∙ at-if1 .if1 .left in
+    let args = at-if1 .before .before .before .before .args in
+    let deep : eqb (view (args .s) .answer) 8 ≡ false =
+    sym (deep-as (args .s)) ∙ sym (at-is-too-deep .is-too-deep .ensures) ∙ c .before .if3 .left in (
+      (c .grammar .ensures) ∙ simp (at-place-of .place-of .ensures, at-place .place .ensures, whole, deep),
       (at-clear2 .clear2 .ensures) ∙ simp (whole),
     )
 
 pub conclude-spec : {M : Type 1} → statement M
 conclude-spec =
-    tie.close (tie.spec (λ c κs. search needs) (λ c. search needs) (λ c κs. search needs) (λ c κs. search needs)
-    (λ c. search needs) returns (λ c κs. search needs) returns-2 (λ c κs. search needs) (λ c κs. search needs)
-    (λ c κs. search needs) (λ c. search needs) returns-3 (λ c κs. search needs) (λ c. search needs) returns-4)
+    tie.close (tie.spec (λ c κs. search needs) (λ c κs. search needs) (λ c. search needs) (λ c κs. search needs)
+    (λ c κs. search needs) (λ c. search needs) returns (λ c κs. search needs) returns-2 (λ c κs. search needs)
+    (λ c κs. search needs) (λ c κs. search needs) (λ c κs. search needs) (λ c κs. search needs) (λ c. search needs)
+    returns-3 (λ c κs. search needs) (λ c. search needs) returns-4)

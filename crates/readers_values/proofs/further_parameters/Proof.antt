@@ -1,27 +1,26 @@
--- `listed_parameters` reads parameters with commas between them.
+-- `further_parameters` reads further parameters: each turn is one more, and they end where no comma stands ahead.
 -- The part read so far as a continuation; what is left to read falls. Assumes nothing.
 use Rattle.prediction.specs.Check.{table}
 use Rattle.prediction.specs.Columns.{plan-at, round}
 use Rattle.prediction.specs.IdlPlans.{idl-prediction}
-use Rattle.prediction.specs.Plan.{call, seq, token}
 use Rattle.readers_core.proofs.Choosing.{Knows, among, except, is-over}
 use Rattle.readers_core.proofs.Repetition.{Far, falls, far-here, far-more, far-over, remaining, repeats}
 use Rattle.readers_core.proofs.Sequence.{_▸_}
-use Rattle.readers_core.specs.declared.Reading.{Reading}
+use Prim.Native.Nat.{ℕ}
+use Rattle.readers_interfaces.specs.Plans.{further}
 use borrow.Author.Needs.{needs}
 use lib.ListN.{length}
 use mathlib.Core.List.{[], _∷_}
 use mathlib.Core.Path.{_∙_, _≡_, refl}
-use Rattle.readers_values.proofs.listed_parameters.Statement.{statement}
-use Rattle.readers_values.proofs.listed_parameters.Tie as tie
+use Rattle.readers_values.proofs.further_parameters.Statement.{statement}
+use Rattle.readers_values.proofs.further_parameters.Tie as tie
 
 abbrev Inv-loop : tie.InvT-loop
-Inv-loop tokens tree₀ d t₀ tree t =
-    (length tree ≡ length tree₀) ×
-    ((start : Reading) → Far tokens d start (seq (token 68) (call 25)) (t₀, tree₀) (t, tree))
+Inv-loop tokens tree₀ s d t₀ tree t =
+    (length tree ≡ length tree₀) × ((start : ℕ) → Far tokens d start (further 25) (s, tree₀) (t, tree))
 
 abbrev μ-loop : tie.MeasureT-loop
-μ-loop tokens tree₀ d t₀ tree t = remaining tokens t
+μ-loop tokens tree₀ s d t₀ tree t = remaining tokens t
 
 loop-holds : tie.Need-loop-holds Inv-loop μ-loop
 loop-holds c = (refl, λ start. far-here)
@@ -33,9 +32,9 @@ loop-less c =
     let next-kind = c .before .before .before .before .before .before .next-kind in
     let if1 = c .before .before .before .before .before .if1 in
     let take = c .before .before .before .before .take in
-    let init-param-decl2 = c .before .before .init-param-decl2 in
+    let init-param-decl = c .before .before .init-param-decl in
     falls {start = (loop .t)} (among (68 ∷ [])) (next-kind .ensures) (if1 .taken) tt
-    ((take .ensures .reads _ _ .in-any _) ▸ (init-param-decl2 .ensures .in-any _))
+    (λ hs. (take .ensures .reads _ _ .in-any _ _) ▸ (init-param-decl .ensures .in-any _ _))
 
 loop-again : tie.Need-loop-again Inv-loop μ-loop
 unfolding table round plan-at idl-prediction Knows repeats is-over
@@ -44,25 +43,24 @@ loop-again c =
     let next-kind = c .before .before .before .before .before .before .next-kind in
     let if1 = c .before .before .before .before .before .if1 in
     let take = c .before .before .before .before .take in
-    let init-param-decl2 = c .before .before .init-param-decl2 in (
-      (init-param-decl2 .kept .1 .0) ∙ (loop .inv .0),
+    let init-param-decl = c .before .before .init-param-decl in (
+      (init-param-decl .kept .1 .0) ∙ (loop .inv .0),
       λ start. far-more (among (68 ∷ [])) (next-kind .ensures)
-          (if1 .taken) tt ((take .ensures .reads _ _ .in-any _) ▸ (init-param-decl2 .ensures .in-any _))
+          (if1 .taken) tt (λ hs. (take .ensures .reads _ _ .in-any _ _) ▸ (init-param-decl .ensures .in-any _ _))
           ((loop .inv .1) start),
     )
 
 returns : tie.Need-returns Inv-loop μ-loop
 unfolding table round plan-at idl-prediction Knows repeats is-over
 returns c =
-    let init-param-decl = c .before .before .before .before .before .init-param-decl in
     let loop = c .before .before .loop in
     let next-kind = c .before .next-kind in
     record {
-      in-any = λ start. (init-param-decl .ensures .in-any _) ▸ far-over (except ((68 ∷ []) ∷ []))
-          (next-kind .ensures) (tt, (c .if1 .left)) tt ((loop .inv .1) start);
+      in-any = λ start. far-over (except ((68 ∷ []) ∷ [])) (next-kind .ensures) (tt, (c .if1 .left)) tt
+          ((loop .inv .1) start);
     }
 
-pub listed-parameters-spec : {M : Type 1} → statement M
-listed-parameters-spec =
-    tie.close (tie.spec Inv-loop μ-loop (λ c κs. search needs) loop-holds (λ c κs. search needs)
-    (λ c κs. search needs) (λ c κs. search needs) loop-less loop-again (λ c. search needs) returns)
+pub further-parameters-spec : {M : Type 1} → statement M
+further-parameters-spec =
+    tie.close (tie.spec Inv-loop μ-loop loop-holds (λ c κs. search needs) (λ c κs. search needs)
+    (λ c κs. search needs) loop-less loop-again (λ c. search needs) returns)

@@ -1,0 +1,212 @@
+-- The shape that a plan leaves: what a frame has read is nothing, one node, or more, as its plan tells.
+-- By induction on the run; every plan of a rule leaves one node, by one computed test over the plans. Assumes nothing.
+use Prim.Native.Nat.{ℕ}
+use mathlib.Core.Path.{_≡_, refl, ap, sym, _∙_, subst}
+use mathlib.Core.Bool.{Bool, true, false, not, _&&_, _||_, cond}
+use mathlib.Core.List.{List, [], _∷_, _++_}
+use mathlib.Core.Logic.{_⊎_, inl, inr, ⊎-elim}
+use lib.Dec.{T, T-not, eqb, eqb→eq, eqb-refl}
+use Rattle.grammar.specs.Forest.{Forest, end, leaf, node, join, join-end}
+use Rattle.grammar.specs.Idl.{idl}
+use Rattle.grammar.specs.Record.{shape, recorded}
+use Rattle.grammar.specs.Sets.{elem}
+use Rattle.prediction.specs.Sets.{and-left, and-right, or-left, or-right, or-cases, subset, subset-in, elem-left, elem-right}
+use Rattle.prediction.specs.Plan.{Plan, token, group, call, wrap, seq, alt, skip, many}
+use Rattle.prediction.specs.Run.{done, stopped, Runs, run-token, run-inside, run-group, run-call}
+use Rattle.prediction.specs.Run.{run-call-stop, run-wrap, run-seq, run-seq-stop, run-left, run-right}
+use Rattle.prediction.specs.Run.{run-skip, run-last, run-more, run-more-stop}
+use Rattle.prediction.specs.Columns.{plan-at, round, every, every-at}
+use Rattle.prediction.specs.Check.{table}
+use Rattle.prediction.specs.IdlPlans.{idl-prediction}
+use Rattle.prediction.specs.IdlChecked.{idl-table}
+use Rattle.readers_core.specs.Reading.{all-recorded, none-recorded}
+
+-- the shape of two forests side by side
+unfoldable pub beside : ℕ → ℕ → ℕ
+beside m n = cond (eqb m 0) n (cond (eqb n 0) m 2)
+
+pub shape-join : (f g : Forest) → beside (shape f) (shape g) ≡ shape (join f g)
+unfolding beside shape join
+shape-join end g = sym (ap shape (join-end g))
+shape-join (leaf f k) end = refl
+shape-join (leaf f k) (leaf g l) = refl
+shape-join (leaf f k) (node end r c) = refl
+shape-join (leaf f k) (node (leaf g l) r c) = refl
+shape-join (leaf f k) (node (node g r′ c′) r c) = refl
+shape-join (node end k e) end = refl
+shape-join (node end k e) (leaf g l) = refl
+shape-join (node end k e) (node end r c) = refl
+shape-join (node end k e) (node (leaf g l) r c) = refl
+shape-join (node end k e) (node (node g r′ c′) r c) = refl
+shape-join (node (leaf f m) k e) end = refl
+shape-join (node (leaf f m) k e) (leaf g l) = refl
+shape-join (node (leaf f m) k e) (node end r c) = refl
+shape-join (node (leaf f m) k e) (node (leaf g l) r c) = refl
+shape-join (node (leaf f m) k e) (node (node g r′ c′) r c) = refl
+shape-join (node (node f k′ e′) k e) end = refl
+shape-join (node (node f k′ e′) k e) (leaf g l) = refl
+shape-join (node (node f k′ e′) k e) (node end r c) = refl
+shape-join (node (node f k′ e′) k e) (node (leaf g l) r c) = refl
+shape-join (node (node f k′ e′) k e) (node (node g r′ c′) r c) = refl
+
+-- a plan leaves one node; where e holds, if it began with one
+leaves-one : Bool → Plan → Bool
+leaves-one e (wrap r) = true
+leaves-one e (seq a b) = leaves-one (leaves-one e a) b
+leaves-one e (alt a b) = leaves-one e a && leaves-one e b
+leaves-one e (many a) = e && leaves-one false a
+leaves-one e skip = e
+leaves-one e (token k) = false
+leaves-one e (group o b c) = false
+leaves-one e (call n) = false
+
+all-leave-one : T (every (leaves-one false) (idl-prediction .plans))
+unfolding every leaves-one idl-prediction
+all-leave-one = tt
+
+plan-leaves-one : (n : ℕ) → T (leaves-one false (idl-table .plan n))
+unfolding table round plan-at leaves-one
+plan-leaves-one n = every-at (leaves-one false) (idl-prediction .plans) (seq skip (wrap n)) tt all-leave-one n
+
+closed : {s : ℕ → ℕ} {d i j : ℕ} {p : Plan} {f g : Forest} (e : Bool) → T (leaves-one e p) → (T e → shape f ≡ 1) →
+    Runs idl-table s d p i f (done j g) → shape g ≡ 1
+unfolding leaves-one shape stopped
+closed e u h run-wrap = refl
+closed {p = seq a b} e u h (run-seq r r′) = closed (leaves-one e a) u (λ v. closed e v h r) r′
+closed e u h (run-seq-stop r z) = absurd z
+closed {p = alt a b} e u h (run-left v r) = closed e (and-left (leaves-one e a) (leaves-one e b) u) h r
+closed {p = alt a b} e u h (run-right v v′ r) = closed e (and-right (leaves-one e a) (leaves-one e b) u) h r
+closed e u h run-skip = h u
+closed {p = many a} e u h (run-last v) = h (and-left e (leaves-one false a) u)
+closed {p = many a} e u h (run-more v r r′) =
+    closed e u (λ _. closed false (and-right e (leaves-one false a) u) (λ z. absurd z) r) r′
+closed e u h (run-more-stop v r z) = absurd z
+closed e u h (run-token v) = absurd u
+closed e u h (run-inside v r z) = absurd u
+closed e u h (run-group v r v′) = absurd u
+closed e u h (run-call r v) = absurd u
+closed e u h (run-call-stop r z) = absurd u
+
+-- a rule leaves one node
+pub one-node : {s : ℕ → ℕ} {d i j : ℕ} (n : ℕ) {g : Forest} → Runs idl-table s d (idl-table .plan n) i end (done j g) →
+    shape g ≡ 1
+one-node n r = closed false (plan-leaves-one n) (λ z. absurd z) r
+
+-- the shapes with a node more
+unfoldable pub one-more : List ℕ → List ℕ
+unfolding beside
+one-more [] = []
+one-more (h ∷ hs) = beside h 1 ∷ one-more hs
+
+-- the shapes that a plan leaves, from one of these
+unfoldable pub leaves : Plan → List ℕ → List ℕ
+unfolding one-more subset
+leaves (token k) hs = 2 ∷ []
+leaves (group o b c) hs = 2 ∷ []
+leaves (call n) hs = one-more hs
+leaves (wrap r) hs = 1 ∷ []
+leaves (seq a b) hs = leaves b (leaves a hs)
+leaves (alt a b) hs = leaves a hs ++ leaves b hs
+leaves skip hs = hs
+leaves (many a) hs = cond (subset (leaves a hs) hs) hs (0 ∷ 1 ∷ 2 ∷ [])
+
+same : (x k : ℕ) → x ≡ k → T (eqb x k)
+same x k e = subst (λ (z : ℕ). T (eqb x z)) e (eqb-refl x)
+
+is-one : (f : Forest) (h : ℕ) → shape f ≡ h → T (elem (shape f) (h ∷ []))
+unfolding elem
+is-one f h e = or-left (eqb (shape f) h) false (same (shape f) h e)
+
+any-shape : (f : Forest) → T (elem (shape f) (0 ∷ 1 ∷ 2 ∷ []))
+unfolding shape elem
+any-shape end = tt
+any-shape (leaf f k) = tt
+any-shape (node end r c) = tt
+any-shape (node (leaf f k) r c) = tt
+any-shape (node (node f r′ c′) r c) = tt
+
+more-in : (h : ℕ) (hs : List ℕ) → T (elem h hs) → T (elem (beside h 1) (one-more hs))
+unfolding one-more elem
+more-in h [] u = absurd u
+more-in h (k ∷ hs) u =
+    ⊎-elim (λ v. or-left (eqb (beside h 1) (beside k 1)) (elem (beside h 1) (one-more hs))
+    (same (beside h 1) (beside k 1) (ap (λ (z : ℕ). beside z 1) (eqb→eq h k v))))
+    (λ v. or-right (eqb (beside h 1) (beside k 1)) (elem (beside h 1) (one-more hs)) (more-in h hs v))
+    (or-cases (eqb h k) (elem h hs) u)
+
+-- a repetition leaves the shapes from which it does not lead, and else any
+kept-in : (f : Forest) (hs after : List ℕ) → T (elem (shape f) hs) →
+    T (elem (shape f) (cond (subset after hs) hs (0 ∷ 1 ∷ 2 ∷ [])))
+kept-in f hs after u = go (subset after hs)
+  where
+    go : (x : Bool) → T (elem (shape f) (cond x hs (0 ∷ 1 ∷ 2 ∷ [])))
+    go true = u
+    go false = any-shape f
+
+turned-in : (g : Forest) (hs after : List ℕ) →
+    (T (subset after hs) → T (elem (shape g) (cond (subset after hs) hs (0 ∷ 1 ∷ 2 ∷ [])))) →
+    T (elem (shape g) (cond (subset after hs) hs (0 ∷ 1 ∷ 2 ∷ [])))
+turned-in g hs after k = go (subset after hs) k
+  where
+    go : (x : Bool) → (T x → T (elem (shape g) (cond x hs (0 ∷ 1 ∷ 2 ∷ [])))) →
+        T (elem (shape g) (cond x hs (0 ∷ 1 ∷ 2 ∷ [])))
+    go true k = k tt
+    go false k = any-shape g
+
+-- what a plan leaves has one of its shapes
+pub shapes : {s : ℕ → ℕ} {d i j : ℕ} (p : Plan) {f g : Forest} (hs : List ℕ) → Runs idl-table s d p i f (done j g) →
+    T (elem (shape f) hs) → T (elem (shape g) (leaves p hs))
+unfolding leaves shape stopped
+shapes (token k) {g = g} hs (run-token e) u = is-one g 2 refl
+shapes (group o b c) hs (run-inside e r z) u = absurd z
+shapes (group o b c) {g = g} hs (run-group e r e′) u = is-one g 2 refl
+shapes (call n) {f = f} hs (run-call {h = h} r e) u =
+    subst (λ (z : ℕ). T (elem z (one-more hs)))
+    (ap (λ (z : ℕ). beside (shape f) z) (sym (one-node n r)) ∙ shape-join f h ∙ sym (ap shape e))
+    (more-in (shape f) hs u)
+shapes (call n) hs (run-call-stop r z) u = absurd z
+shapes (wrap r) {g = g} hs run-wrap u = is-one g 1 refl
+shapes (seq a b) hs (run-seq r r′) u = shapes b (leaves a hs) r′ (shapes a hs r u)
+shapes (seq a b) hs (run-seq-stop r z) u = absurd z
+shapes (alt a b) {g = g} hs (run-left v r) u = elem-left (shape g) (leaves a hs) (leaves b hs) (shapes a hs r u)
+shapes (alt a b) {g = g} hs (run-right v v′ r) u = elem-right (shape g) (leaves a hs) (leaves b hs) (shapes b hs r u)
+shapes skip hs run-skip u = u
+shapes (many a) {f = f} hs (run-last v) u = kept-in f hs (leaves a hs) u
+shapes (many a) {g = g} hs (run-more {h = h} v r r′) u =
+    turned-in g hs (leaves a hs)
+    (λ c. shapes (many a) hs r′ (subset-in (shape h) (leaves a hs) hs c (shapes a hs r u)))
+shapes (many a) hs (run-more-stop v r z) u = absurd z
+
+truly : (b : Bool) → T b → b ≡ true
+truly true u = refl
+truly false u = absurd u
+
+falsely : (b : Bool) → T (not b) → b ≡ false
+falsely true u = absurd u
+falsely false u = refl
+
+in-all : (r h : ℕ) (hs : List ℕ) → T (all-recorded r hs) → T (elem h hs) → recorded idl r h ≡ true
+unfolding all-recorded elem
+in-all r h [] u v = absurd v
+in-all r h (k ∷ hs) u v =
+    ⊎-elim (λ e. subst (λ (z : ℕ). recorded idl r z ≡ true) (sym (eqb→eq h k e))
+    (truly (recorded idl r k) (and-left (recorded idl r k) (all-recorded r hs) u)))
+    (λ e. in-all r h hs (and-right (recorded idl r k) (all-recorded r hs) u) e) (or-cases (eqb h k) (elem h hs) v)
+
+in-none : (r h : ℕ) (hs : List ℕ) → T (none-recorded r hs) → T (elem h hs) → recorded idl r h ≡ false
+unfolding none-recorded elem
+in-none r h [] u v = absurd v
+in-none r h (k ∷ hs) u v =
+    ⊎-elim (λ e. subst (λ (z : ℕ). recorded idl r z ≡ false) (sym (eqb→eq h k e))
+    (falsely (recorded idl r k) (and-left (not (recorded idl r k)) (none-recorded r hs) u)))
+    (λ e. in-none r h hs (and-right (not (recorded idl r k)) (none-recorded r hs) u) e)
+    (or-cases (eqb h k) (elem h hs) v)
+
+-- a rule is recorded over what was read; it is not
+pub recorded-over : (r : ℕ) (hs : List ℕ) (f : Forest) → T (all-recorded r hs) → T (elem (shape f) hs) →
+    recorded idl r (shape f) ≡ true
+recorded-over r hs f u v = in-all r (shape f) hs u v
+
+pub unrecorded-over : (r : ℕ) (hs : List ℕ) (f : Forest) → T (none-recorded r hs) → T (elem (shape f) hs) →
+    recorded idl r (shape f) ≡ false
+unrecorded-over r hs f u v = in-none r (shape f) hs u v
