@@ -1,13 +1,16 @@
 -- Reading the text lexeme by lexeme: what the tokens passed and the rest of the text are together is what the whole text is.
 -- A lexeme moves this on by its length; a fault, or the end of the text, decides it. Assumes nothing.
+use mathlib.Core.Bool.{Bool, true, false}
 use mathlib.Core.List.{List, [], _∷_, _++_}
 use mathlib.Core.Path.{_≡_, refl, ap, sym, _∙_}
 use Prim.Native.Nat.{ℕ, zero, suc, pred, _+_, _-_, _≤_, _<_}
+use native.Mathlib.Nat.{add-zero}
 use native.Mathlib.Omega.{arith}
 use lib.ListN.{length, drop, length-append, length-drop}
 use lib.Seq.{drop-drop, drop-length}
 use Rattle.tables.specs.Tables.{token-width, put, store}
 use Rattle.tables.specs.Laws.{store-more, length-store}
+use Rattle.text.specs.Bytes.{run, space, at as byte}
 use Rattle.text.specs.Lexemes.{lexeme}
 use Rattle.text.specs.Tokens.{Tokens, tokens, fault, token, before, then, tokens-in, tokens-of}
 use Rattle.text.specs.declared.Lexeme.{Lexeme}
@@ -18,6 +21,7 @@ use Rattle.tokens.specs.Answer.{Scanned, all-tokens, first-fault}
 use Rattle.tokens.specs.declared.Found.the-variants as found
 use Rattle.text.proofs.Sizes.{Sized}
 use Rattle.lexemes.proofs.Sizes.{lexeme-sized}
+use Rattle.lexemes.proofs.Sorting.{lexeme-space}
 
 -- several tokens in front of what follows
 unfoldable pub after : List (List ℕ) → Tokens → Tokens
@@ -133,6 +137,26 @@ module _ (text table₀ : List ℕ) where
     reading-fault number f e d =
         let whole : tokens-of text ≡ fault number at = next e ∙ ap (after (r .passed)) (f _) ∙ after-fault (r .passed) number at in
         rw (whole, d) (first-fault number at)
+
+  -- white space is passed at once
+  pub reading-space : {table : List ℕ} {at n : ℕ} → Reading text table₀ table at n →
+      Reading text table₀ table (at + run space (drop at text)) n
+  unfolding run
+  reading-space {table} {at} {n} r = go (drop at text) refl
+    where
+      none : run space (drop at text) ≡ 0 → Reading text table₀ table (at + run space (drop at text)) n
+      none e = rw (e, add-zero at) r
+
+      go : (bs : List ℕ) → bs ≡ drop at text → Reading text table₀ table (at + run space (drop at text)) n
+      go [] e = none (sym (ap (run space) e))
+      go (b ∷ bs) e = pick (space b) refl
+        where
+          some : at < length text
+          some = omega (arith, ap length e, length-drop at text)
+
+          pick : (x : Bool) → space b ≡ x → Reading text table₀ table (at + run space (drop at text)) n
+          pick true u = reading-blank some r (lexeme-space (drop at text) (ap (λ (l : List ℕ). space (byte l 0)) (sym e) ∙ u))
+          pick false u = none (sym (ap (run space) e) ∙ rw u refl)
 
   -- and so does the end of the text
   pub reading-ends : {table : List ℕ} {at n : ℕ} → length text ≤ at → Reading text table₀ table at n →

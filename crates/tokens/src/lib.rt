@@ -1,7 +1,8 @@
 // The token part: the tokens of a text as records of a lent table, or the text's first fault.
 ghost use mathlib.Core.Path.{_≡_};
-ghost use Prim.Native.Nat.{_<_, _^_};
-ghost use lib.ListN.{length};
+ghost use Prim.Native.Nat.{_+_, _≤_, _<_, _^_};
+ghost use lib.ListN.{length, drop};
+ghost use Rattle.text.specs.Bytes.{run, space};
 ghost use Rattle.text.specs.Tokens.{tokens-of};
 ghost use Rattle.tokens.specs.Answer.{Scanned, token-reply, token-table};
 use lexemes::lexeme;
@@ -9,12 +10,21 @@ use limits::Limits;
 use replies::Reply;
 use tables::clear;
 use tables::put_token;
+use text::Class;
 use text::Lexeme;
 
 // What the whole text is: so many tokens, or its first fault.
 pub enum Found {
     Tokens(usize),
     Fault(Reply),
+}
+
+// The place behind the white space that stands at a place.
+fn past_space(text: &[u8], at: usize) -> usize
+    requires { ⌜ at ≤ length (now text) ⌝ }
+    ensures { λ r. ⌜ r ≡ at + run space (drop at (now (text .entry))) ⌝ }
+{
+    at + text::run_of(Class::Space, &text[at..])
 }
 
 // Reads the whole text. The records go into the table while it has room; counting goes on when it is full.
@@ -32,7 +42,7 @@ fn scan(text: &[u8], tokens: &mut [u32]) -> Found
             Lexeme::Token(kind, size) => {
                 put_token(tokens, n, kind, at as u32, size as u32);
                 n += 1;
-                at += size;
+                at = past_space(text, at + size);
             }
             Lexeme::NoLexeme => return Found::Fault(Reply::no_lexeme(at as u32)),
             Lexeme::Open => return Found::Fault(Reply::left_open(at as u32)),

@@ -13,7 +13,7 @@ use Rattle.text.specs.declared.Lexeme.the-variants.{Blank, Token}
 use Rattle.words.specs.Table.{table}
 use Rattle.text.proofs.Rests.{rest}
 use Rattle.text.proofs.Sizes.{Sized}
-use Rattle.tokens.proofs.Scans.{Reading, reading-starts, reading-length, next-sized, reading-blank, reading-token, reading-fault, reading-ends}
+use Rattle.tokens.proofs.Scans.{Reading, reading-starts, reading-length, next-sized, reading-blank, reading-token, reading-fault, reading-space, reading-ends}
 use Rattle.tokens.proofs.scan.Statement.{statement}
 use Rattle.tokens.proofs.scan.Tie as tie
 
@@ -77,21 +77,28 @@ cast-put-token-2 c = omega (arith, token-sized (c .before) .1)
 add-n : tie.Need-add-n Inv-loop μ-loop
 add-n c = omega (arith, token-sized (c .before .before .before .before) .1)
 
-add-at-2 : tie.Need-add-at-2 Inv-loop μ-loop
-add-at-2 c = omega (arith, token-sized (c .before .before .before .before) .1)
+add-past-space : tie.Need-add-past-space Inv-loop μ-loop
+add-past-space c = omega (arith, token-sized (c .before .before .before .before) .1)
+
+past-space-requires : tie.Need-past-space-requires Inv-loop μ-loop
+past-space-requires c κs =
+    let token = c .before .before .before .before in
+    let read = token .before .before .before in
+    omega (arith, token-sized token .1, turn read .loop-test .taken)
 
 loop-less-2 : tie.Need-loop-less-2 Inv-loop μ-loop
 loop-less-2 c =
-    let token = c .before .before .before .before in
-    omega (arith, token-sized token .0, token-sized token .1)
+    let token = c .before .before .before .before .before in
+    omega (arith, token-sized token .0, token-sized token .1, c .past-space .ensures)
 
 loop-again-2 : tie.Need-loop-again-2 Inv-loop μ-loop
 loop-again-2 c =
-    let token = c .before .before .before .before in
+    let token = c .before .before .before .before .before in
     let read = token .before .before .before in (
       turn read .before .loop .inv .0,
-      rw (c .before .before .put-token .ensures)
-          (reading-token _ _ (turn read .loop-test .taken) (turn read .before .loop .inv .1) (token-next token)),
+      rw (c .before .before .before .put-token .ensures, c .past-space .ensures)
+          (reading-space _ _
+          (reading-token _ _ (turn read .loop-test .taken) (turn read .before .loop .inv .1) (token-next token))),
     )
 
 same-length : tie.Need-same-length Inv-loop μ-loop
@@ -161,7 +168,8 @@ scan-spec =
     cast-put-token-2
     (λ c κs. search needs)
     add-n
-    add-at-2
+    add-past-space
+    past-space-requires
     loop-less-2
     loop-again-2
     (λ c. search needs)
