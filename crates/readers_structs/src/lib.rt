@@ -108,7 +108,7 @@ fn struct_body(tokens: &[u32], tree: &mut [u32], s: Reading, depth: u32) -> Read
     take(tokens, u, kind::CLOSE_BRACE)
 }
 
-// (70) member_list
+// (70) member_list: one member alone leaves no record.
 fn member_list(tokens: &[u32], tree: &mut [u32], s: Reading, depth: u32) -> Reading
     requires { ⌜ Short (now tokens) ⌝ }
     ensures { λ r. ⌜ Reads (now (tokens .entry)) depth (call 70) (s, now (tree .entry)) (r, now (tree .exit)) ⌝ }
@@ -191,7 +191,7 @@ fn switch_block(tokens: &[u32], tree: &mut [u32], s: Reading, depth: u32) -> Rea
     take(tokens, u, kind::CLOSE_BRACE)
 }
 
-// (74) switch_body
+// (74) switch_body: one case alone leaves no record.
 fn switch_body(tokens: &[u32], tree: &mut [u32], s: Reading, depth: u32) -> Reading
     requires { ⌜ Short (now tokens) ⌝ }
     ensures { λ r. ⌜ Reads (now (tokens .entry)) depth (call 74) (s, now (tree .entry)) (r, now (tree .exit)) ⌝ }

@@ -5,7 +5,7 @@ ghost use mathlib.Core.Path.{_≡_};
 ghost use Rattle.prediction.specs.Plan.{call, group, many, seq, token, wrap};
 ghost use Rattle.grammar.specs.Sets.{elem};
 ghost use Rattle.readers_core.specs.Reading.{Short, Flat, Follows, From, Reads, several};
-ghost use Rattle.readers_types.specs.Plans.{bound, string-plan, fixed-bounds, behind-name, further, enumerators};
+ghost use Rattle.readers_types.specs.Plans.{string-plan, fixed-bounds, behind-name, further, enumerators};
 ghost use Rattle.readers_types.specs.Plans.{sequence-body, sequence-bound};
 use readers_core::Reading;
 use readers_core::has_stopped;
@@ -22,17 +22,24 @@ use readers_names::number_type;
 use readers_names::scoped_name;
 use readers_names::word;
 
-// A bound between angle brackets.
-fn bound(tokens: &[u32], tree: &mut [u32], s: Reading, depth: u32) -> Reading
-    requires { ⌜ Short (now tokens) ⌝ }
-    ensures { λ r. ⌜ Reads (now (tokens .entry)) depth bound (s, now (tree .entry)) (r, now (tree .exit)) ⌝ }
+// A positive constant between an opening mark and its closing one.
+fn enclosed(
+    tokens: &[u32],
+    tree: &mut [u32],
+    s: Reading,
+    depth: u32,
+    opening: u32,
+    closing: u32,
+) -> Reading
+    requires { ⌜ Short (now tokens) × (0 < opening) × (0 < closing) ⌝ }
+    ensures { λ r. ⌜ Reads (now (tokens .entry)) depth (group opening (call 41) closing) (s, now (tree .entry)) (r, now (tree .exit)) ⌝ }
 {
-    let t = open(tokens, s, kind::OPEN_ANGLE, depth);
+    let t = open(tokens, s, opening, depth);
     if has_stopped(t) {
         return t;
     }
     let u = positive_int_const(&*tokens, tree, t, depth - 1);
-    take(tokens, u, kind::CLOSE_ANGLE)
+    take(tokens, u, closing)
 }
 
 // (81) string_type and (82) wide_string_type: the word, and a bound or none.
@@ -50,7 +57,14 @@ pub fn string_type(
     let t = take(tokens, s, word);
     let next = next_kind(tokens, t);
     if next == kind::OPEN_ANGLE {
-        let u = bound(&*tokens, tree, t, depth);
+        let u = enclosed(
+            &*tokens,
+            tree,
+            t,
+            depth,
+            kind::OPEN_ANGLE,
+            kind::CLOSE_ANGLE,
+        );
         return node(tree, s, u, rule);
     }
     node(tree, s, t, rule)
@@ -81,25 +95,19 @@ fn fixed_pt_type(tokens: &[u32], tree: &mut [u32], s: Reading, depth: u32) -> Re
     node(tree, s, u, 96)
 }
 
-// What a fixed_array_size has between its brackets.
-fn size(tokens: &[u32], tree: &mut [u32], s: Reading, depth: u32) -> Reading
-    requires { ⌜ Short (now tokens) ⌝ }
-    ensures { λ r. ⌜ Reads (now (tokens .entry)) depth (group 75 (call 41) 76) (s, now (tree .entry)) (r, now (tree .exit)) ⌝ }
-{
-    let t = open(tokens, s, kind::OPEN_BRACKET, depth);
-    if has_stopped(t) {
-        return t;
-    }
-    let u = positive_int_const(&*tokens, tree, t, depth - 1);
-    take(tokens, u, kind::CLOSE_BRACKET)
-}
-
 // (84) fixed_array_size
 fn fixed_array_size(tokens: &[u32], tree: &mut [u32], s: Reading, depth: u32) -> Reading
     requires { ⌜ Short (now tokens) ⌝ }
     ensures { λ r. ⌜ Reads (now (tokens .entry)) depth (call 84) (s, now (tree .entry)) (r, now (tree .exit)) ⌝ }
 {
-    let t = size(&*tokens, tree, s, depth);
+    let t = enclosed(
+        &*tokens,
+        tree,
+        s,
+        depth,
+        kind::OPEN_BRACKET,
+        kind::CLOSE_BRACKET,
+    );
     node(tree, s, t, 84)
 }
 
@@ -151,7 +159,7 @@ fn further_declarators(tokens: &[u32], tree: &mut [u32], s: Reading, depth: u32)
     t
 }
 
-// (49) declarators
+// (49) declarators: one alone leaves no record.
 pub fn declarators(tokens: &[u32], tree: &mut [u32], s: Reading, depth: u32) -> Reading
     requires { ⌜ Short (now tokens) ⌝ }
     ensures { λ r. ⌜ Reads (now (tokens .entry)) depth (call 49) (s, now (tree .entry)) (r, now (tree .exit)) ⌝ }

@@ -148,7 +148,7 @@ fn further_parameters(tokens: &[u32], tree: &mut [u32], s: Reading, depth: u32) 
     t
 }
 
-// (24) init_param_decls
+// (24) init_param_decls: one alone leaves no record.
 fn init_param_decls(tokens: &[u32], tree: &mut [u32], s: Reading, depth: u32) -> Reading
     requires { ⌜ Short (now tokens) ⌝ }
     ensures { λ r. ⌜ Reads (now (tokens .entry)) depth (call 24) (s, now (tree .entry)) (r, now (tree .exit)) ⌝ }

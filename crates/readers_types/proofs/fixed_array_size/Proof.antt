@@ -14,9 +14,9 @@ use Rattle.readers_types.proofs.fixed_array_size.Tie as tie
 returns : tie.Need-returns
 unfolding table round plan-at idl-prediction leaves all-recorded none-recorded
 returns c =
-    let size = c .before .before .before .before .before .before .size in
+    let enclosed = c .before .before .before .before .before .before .enclosed in
     let node = c .before .before .node in
-    frame 84 ((size .ensures .in-any _ _) ▸ (node .ensures .wraps _ _ _ tt))
+    frame 84 ((enclosed .ensures .in-any _ _) ▸ (node .ensures .wraps _ _ _ tt))
 
 pub fixed-array-size-spec : {M : Type 1} → statement M
 fixed-array-size-spec = tie.close (tie.spec (λ c κs. search needs) (λ c κs. search needs) (λ c. search needs) returns)

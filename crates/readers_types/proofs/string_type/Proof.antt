@@ -18,13 +18,13 @@ returns c =
     let take = c .before .before .before .before .before .before .before .before .before .before .take in
     let next-kind = c .before .before .before .before .before .before .before .before .before .next-kind in
     let if1 = c .before .before .before .before .before .before .before .before .if1 in
-    let bound = c .before .before .before .before .before .before .bound in
+    let enclosed = c .before .before .before .before .before .before .enclosed in
     let node = c .before .before .node in
     record {
       reads =
           λ q. frame-by (args .rule) q ((take .ensures .reads _ _ .in-any _ _) ▸
           chosen (among (73 ∷ [])) (next-kind .ensures) (if1 .taken)
-          (bound .ensures .in-any _ _) ▸ (node .ensures .wraps _ _ _ tt));
+          (enclosed .ensures .in-any _ _) ▸ (node .ensures .wraps _ _ _ tt));
     }
 
 returns-2 : tie.Need-returns-2

@@ -1,12 +1,12 @@
--- `size` reads the size of an array at one level of depth less.
+-- `enclosed` reads a positive constant between two marks, at one level of depth less.
 -- The opening mark, and behind it the body and the closing mark. Assumes nothing.
 use Rattle.readers_core.proofs.Groups.{grouped, level, shut-out}
 use Rattle.readers_core.proofs.Sequence.{_▸_}
 use Rattle.readers_core.proofs.Views.{going-if, stopped-if}
 use borrow.Author.Needs.{needs}
 use native.Mathlib.Omega.{arith}
-use Rattle.readers_types.proofs.size.Statement.{statement}
-use Rattle.readers_types.proofs.size.Tie as tie
+use Rattle.readers_types.proofs.enclosed.Statement.{statement}
+use Rattle.readers_types.proofs.enclosed.Tie as tie
 
 returns : tie.Need-returns
 returns c =
@@ -35,7 +35,7 @@ returns-2 c =
           ((positive-int-const .ensures .in-any _ _) ▸ (c .take .ensures .reads _ _ .in-any _ _));
     }
 
-pub size-spec : {M : Type 1} → statement M
-size-spec =
+pub enclosed-spec : {M : Type 1} → statement M
+enclosed-spec =
     tie.close (tie.spec (λ c κs. search needs) (λ c κs. search needs) returns sub-positive-int-const
     (λ c κs. search needs) (λ c κs. search needs) (λ c. search needs) returns-2)
