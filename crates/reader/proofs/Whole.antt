@@ -1,13 +1,12 @@
 -- The whole reader's answer from those of its two parts: what the token part refuses is refused, what it accepts is the tree part's to judge.
 -- The token table read back is the tokens of the text, so both parts speak of one meaning. Assumes nothing.
-use Prim.Native.Nat.{ℕ, zero, suc, _+_, _*_, _≤_, _<_}
+use Prim.Native.Nat.{ℕ, _+_, _*_, _≤_}
 use mathlib.Core.Path.{_≡_, refl, ap, sym, _∙_, subst}
 use mathlib.Core.Bool.{Bool, true, false, _&&_, cond, true≢false}
-use mathlib.Core.List.{List, [], _∷_, _++_, map, append-assoc}
+use mathlib.Core.List.{List, _++_, map, append-assoc}
 use native.Mathlib.Omega.{arith}
-use borrow.Author.Tests.{le-leb, lt-leb, lt-ltb, le-ltb, leb-true, leb-false}
-use lib.Dec.{leb, ltb, eqb}
-use lib.ListN.{length, take, drop, replicate}
+use borrow.Author.Tests.{le-leb, lt-ltb, le-ltb, leb-true, leb-false}
+use lib.ListN.{length, drop}
 use lib.Seq.{take-at, drop-at}
 use Rattle.grammar.specs.Idl.{idl}
 use Rattle.limits.specs.declared.Limits.{Limits}
@@ -22,9 +21,9 @@ use Rattle.tables.specs.Laws.{store-front, capacity-fits, length-store}
 use Rattle.text.specs.Tokens.{Tokens, tokens, fault, tokens-of}
 use Rattle.tokens.specs.Answer.{room, answer, filled, token-reply, token-table}
 use Rattle.tokens.proofs.Order.{tokens-few, tokens-records}
-use Rattle.meaning.specs.Sense.{Sense, Means, TextSense, faulty, read, TextMeans, means-fault, means-tokens, kind}
+use Rattle.meaning.specs.Sense.{Sense, Means, TextSense, read, TextMeans, means-fault, means-tokens, kind}
 use Rattle.meaning.specs.Verdict as verdicts
-use Rattle.meaning.specs.Verdict.{Verdict, TextVerdict, judgement, verdict, text-verdict}
+use Rattle.meaning.specs.Verdict.{Verdict, verdict, text-verdict}
 use Rattle.meaning.specs.Answer.{tree-reply, tree-after, text-reply, tokens-kept, text-tokens-after, text-tree-after}
 use Rattle.meaning.specs.Laws.{fault-range}
 use Rattle.meaning.specs.Calls.{Answered, first-records, good-tree-call, TreeAnswered}

@@ -7,7 +7,7 @@ use mathlib.Core.List.{List, [], _∷_, map}
 use native.Mathlib.Omega.{arith}
 use borrow.Author.Tests.{lt-ltb, le-ltb, eq-eqb, ne-eqb}
 use lib.Dec.{T, eqb, ltb, ltb→lt, nltb→le}
-use lib.ListN.{length, getD, take, length-map}
+use lib.ListN.{length, take, length-map}
 use Rattle.grammar.specs.Derivation as grammar
 use Rattle.grammar.specs.Derivation.{Derivation}
 use Rattle.grammar.specs.Forest.{Forest, end}
@@ -16,17 +16,16 @@ use Rattle.grammar.specs.Record.{TreeRecord, tree-record, records, shape}
 use Rattle.grammar.specs.Sets.{elem}
 use Rattle.prediction.specs.IdlChecked.{idl-checked, idl-table}
 use Rattle.prediction.specs.Plan.{call}
-use Rattle.prediction.specs.Run.{Outcome, done, blame, deep, Runs}
+use Rattle.prediction.specs.Run.{Outcome, deep, Runs}
 use Rattle.prediction.specs.Theorems.{records-bounded}
 use Rattle.prediction.specs.Verdict.{Says, says-derived, says-more, says-blamed, says-deep, says}
-use Rattle.replies.specs.declared.Reply.{Reply}
 use Rattle.tables.specs.Tables.{capacity, store, zeroed, Records, token-width, node-width}
 use Rattle.tables.specs.Laws.{store-front, capacity-fits}
 use Rattle.meaning.specs.Sense.{Sense, Means, kind, numbers, tree-records}
 use Rattle.meaning.specs.Laws.{four-wide}
 use Rattle.meaning.specs.Verdict as verdict
 use Rattle.meaning.specs.Verdict.{Verdict, verdict}
-use Rattle.meaning.specs.Answer.{place, tree-reply, tree-after}
+use Rattle.meaning.specs.Answer.{tree-reply, tree-after}
 use Rattle.meaning.specs.Calls.{first-records}
 use Rattle.verdicts.specs.Outcomes.{of-outcome, outcome-verdict}
 use Rattle.readers_core.specs.Reading.{Reading, view, ceiling, write, writes, nothing, Held, Ends, ends-done, ends-blame}

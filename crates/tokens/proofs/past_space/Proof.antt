@@ -1,7 +1,6 @@
 -- `past_space` passes the run of white space at a place.
 -- The run stands in the rest of the text, so its end lies in the text. Assumes nothing.
 use Prim.Native.Nat.{ℕ, _+_}
-use mathlib.Core.List.{List}
 use mathlib.Core.Path.{_≡_, _∙_, ap}
 use native.Mathlib.Omega.{arith}
 use borrow.Author.Needs.{needs}

@@ -13,7 +13,8 @@ use Rattle.text.specs.declared.Lexeme.the-variants.{Blank, Token}
 use Rattle.words.specs.Table.{table}
 use Rattle.text.proofs.Rests.{rest}
 use Rattle.text.proofs.Sizes.{Sized}
-use Rattle.tokens.proofs.Scans.{Reading, reading-starts, reading-length, next-sized, reading-blank, reading-token, reading-fault, reading-space, reading-ends}
+use Rattle.tokens.proofs.Scans.{Reading, reading-starts, reading-length, next-sized, reading-blank, reading-token}
+use Rattle.tokens.proofs.Scans.{reading-fault, reading-space, reading-ends}
 use Rattle.tokens.proofs.scan.Statement.{statement}
 use Rattle.tokens.proofs.scan.Tie as tie
 
