@@ -5,19 +5,14 @@ ghost use Rattle.grammar.specs.Idl.{idl};
 ghost use Rattle.meaning.specs.Calls.{Answered, TreeAnswered};
 ghost use Rattle.spelling.specs.Spelling.{located};
 ghost use Rattle.tokens.specs.Answer.{token-reply, token-table};
-use limits::Limits;
 use replies::Reply;
 use spelling::Span;
 
 // The tokens of a text as records of the lent table, or the refusal that the reply names.
 #[no_mangle]
 pub extern "C" fn idl_read_tokens(text: &[u8], tokens: &mut [u32]) -> Reply
-    ensures reply { λ r. do
-      most ← ⟦Limits::TEXT⟧ .entry
-      ⌜ r ≡ token-reply most (now (text .entry)) (now (tokens .entry)) ⌝ }
-    ensures table { λ _. do
-      most ← ⟦Limits::TEXT⟧ .entry
-      ⌜ now (tokens .exit) ≡ token-table most (now (text .entry)) (now (tokens .entry)) ⌝ }
+    ensures reply { λ r. ⌜ r ≡ token-reply (now (text .entry)) (now (tokens .entry)) ⌝ }
+    ensures table { λ _. ⌜ now (tokens .exit) ≡ token-table (now (text .entry)) (now (tokens .entry)) ⌝ }
 {
     tokens::read_tokens(text, tokens)
 }
@@ -39,11 +34,8 @@ pub extern "C" fn idl_read_tree(
     tree: &mut [u32],
     depth: u32,
 ) -> Reply
-    ensures { λ r. do
-      most ← ⟦Limits::TEXT⟧ .entry
-      deepest ← ⟦Limits::DEPTH⟧ .entry
-      ⌜ TreeAnswered idl most deepest (now (tokens .entry)) «token_count» «text_len» (now (tree .entry)) depth r
-          (now (tree .exit)) ⌝ }
+    ensures { λ r.
+        ⌜ TreeAnswered idl (now (tokens .entry)) «token_count» «text_len» (now (tree .entry)) depth r (now (tree .exit)) ⌝ }
 {
     tree::read_tree(tokens, token_count, text_len, tree, depth)
 }
@@ -51,11 +43,9 @@ pub extern "C" fn idl_read_tree(
 // A whole text, into a token table and a tree table.
 #[no_mangle]
 pub extern "C" fn idl_read(text: &[u8], tokens: &mut [u32], tree: &mut [u32], depth: u32) -> Reply
-    ensures { λ r. do
-      most ← ⟦Limits::TEXT⟧ .entry
-      deepest ← ⟦Limits::DEPTH⟧ .entry
-      ⌜ Answered idl most deepest (now (text .entry)) (now (tokens .entry)) (now (tree .entry)) depth r
-          (now (tokens .exit)) (now (tree .exit)) ⌝ }
+    ensures { λ r.
+        ⌜ Answered idl (now (text .entry)) (now (tokens .entry)) (now (tree .entry)) depth r
+        (now (tokens .exit)) (now (tree .exit)) ⌝ }
 {
     reader::read(text, tokens, tree, depth)
 }

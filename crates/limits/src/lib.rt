@@ -1,6 +1,6 @@
 // The ceilings of a call, named with the type that they bound.
 ghost use mathlib.Core.Path.{_≡_};
-ghost use Rattle.limits.specs.Limits.{bounded};
+ghost use Rattle.limits.specs.Limits.{good-text, bounded};
 
 // The limits of a good call: the length of its text in bytes, and its depth setting.
 pub struct Limits {
@@ -18,14 +18,18 @@ impl Limits {
 
     pub const DEPTH: u32 = 64;
 
+    // Whether a text of so many bytes is within its ceiling.
+    pub fn takes(text: usize) -> bool
+        ensures { λ r. ⌜ r ≡ good-text text ⌝ }
+    {
+        text <= Limits::TEXT
+    }
+
     // The limits of a call, where both are within their ceilings.
     pub fn new(text: usize, depth: u32) -> Bounded
-        ensures { λ r. do
-          most ← ⟦Limits::TEXT⟧ .entry
-          deepest ← ⟦Limits::DEPTH⟧ .entry
-          ⌜ r ≡ bounded most deepest text depth ⌝ }
+        ensures { λ r. ⌜ r ≡ bounded text depth ⌝ }
     {
-        if Limits::TEXT < text {
+        if !Limits::takes(text) {
             return Bounded::Beyond;
         }
         if depth == 0 {

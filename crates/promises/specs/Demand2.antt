@@ -79,8 +79,8 @@ module _ (text table tree : List ℕ) where
   blame-says (judgement ts (verdict.full r)) s z = absurd (omega arith)
   blame-says (judgement ts (verdict.accepted rs)) s z = absurd (omega arith)
 
-module _ (most deepest : ℕ) (text : List ℕ) {table tree : List ℕ} {setting : ℕ} {r : Reply} {table′ tree′ : List ℕ}
-    (a : Answered idl most deepest text table tree setting r table′ tree′) (g : good-call most deepest (length text) setting ≡ true) where
+module _ (text : List ℕ) {table tree : List ℕ} {setting : ℕ} {r : Reply} {table′ tree′ : List ℕ}
+    (a : Answered idl text table tree setting r table′ tree′) (g : good-call (length text) setting ≡ true) where
   -- what is accepted is derived
   pub accepted-only : r .number ≡ 0 → Accepted text table tree r table′ tree′
   accepted-only z =

@@ -171,11 +171,11 @@ module _ (text : List ℕ) (c′ k′ : ℕ) (tokens₁ tokens₂ tree₁ tree�
   kept (judgement ts (verdict.accepted rs)) v′ s s′ (w, (e, f)) = accepted-after ts rs v′ s (e ∙ ap (judgement ts) f)
 
 -- two good calls on one text, the second with depth and tables nowhere smaller
-module _ (most deepest : ℕ) (text : List ℕ) {tokens₁ tree₁ tokens₂ tree₂ : List ℕ} {setting₁ setting₂ : ℕ} {r₁ r₂ : Reply}
+module _ (text : List ℕ) {tokens₁ tree₁ tokens₂ tree₂ : List ℕ} {setting₁ setting₂ : ℕ} {r₁ r₂ : Reply}
     {tokens₁′ tree₁′ tokens₂′ tree₂′ : List ℕ} where
   pub larger-call :
-      Answered idl most deepest text tokens₁ tree₁ setting₁ r₁ tokens₁′ tree₁′ → Answered idl most deepest text tokens₂ tree₂ setting₂ r₂ tokens₂′ tree₂′ →
-      good-call most deepest (length text) setting₁ ≡ true → good-call most deepest (length text) setting₂ ≡ true →
+      Answered idl text tokens₁ tree₁ setting₁ r₁ tokens₁′ tree₁′ → Answered idl text tokens₂ tree₂ setting₂ r₂ tokens₂′ tree₂′ →
+      good-call (length text) setting₁ ≡ true → good-call (length text) setting₂ ≡ true →
       setting₁ ≤ setting₂ → capacity token-width tokens₁ ≤ capacity token-width tokens₂ → capacity node-width tree₁ ≤ capacity node-width tree₂ →
       Kept (capacity token-width tokens₂) (capacity node-width tree₂) r₁ r₂ tokens₁′ tokens₂′ tree₁′ tree₂′
   unfolding After

@@ -54,41 +54,41 @@ pub one-meaning : (text : List ℕ) (s s′ : TextSense) → TextMeans idl text 
 one-meaning = one-text-sense idl-checked
 
 -- Demand 2. A good call on a text, whatever was lent:
-module _ (most deepest : ℕ) (text : List ℕ) {table tree : List ℕ} {setting : ℕ} {r : Reply} {table′ tree′ : List ℕ}
-    (a : Answered idl most deepest text table tree setting r table′ tree′) (good : good-call most deepest (length text) setting ≡ true) where
+module _ (text : List ℕ) {table tree : List ℕ} {setting : ℕ} {r : Reply} {table′ tree′ : List ℕ}
+    (a : Answered idl text table tree setting r table′ tree′) (good : good-call (length text) setting ≡ true) where
   -- what is accepted splits into lexemes, is derived, and stands in the tables
   pub accepted-only : r .number ≡ 0 → Accepted text table tree r table′ tree′
-  accepted-only = demand-2.accepted-only most deepest text a good
+  accepted-only = demand-2.accepted-only text a good
 
   -- with room and depth enough, what is derived is accepted
   pub accepted-always : (ts : List (List ℕ)) → tokens-of text ≡ tokens ts → length ts ≤ capacity token-width table →
       (g : Forest) → Derivation idl (map kind ts) g → length (tree-records idl g) ≤ capacity node-width tree →
       Within (kind-at (map kind ts)) setting 0 (length (map kind ts)) → r .number ≡ 0
-  accepted-always = demand-2.accepted-always most deepest text a good
+  accepted-always = demand-2.accepted-always text a good
 
   -- a grammar refusal names the first token after which no continuation could be legal, or the end
   pub blamed-only : r .number ≡ 7 → Blamed text r
-  blamed-only = demand-2.blamed-only most deepest text a good
+  blamed-only = demand-2.blamed-only text a good
 
   -- and is given there, with room, and depth enough before it
   pub blamed-always : (ts : List (List ℕ)) → tokens-of text ≡ tokens ts → length ts ≤ capacity token-width table →
       (q : ℕ) → Blame idl (map kind ts) q → Within (kind-at (map kind ts)) setting 0 q → r ≡ rows.grammar (place (length text) ts q) (length ts)
-  blamed-always = demand-2.blamed-always most deepest text a good
+  blamed-always = demand-2.blamed-always text a good
 
 -- Demand 3. Two good calls on one text, the second with depth and tables nowhere smaller:
-pub demand-3 : (most deepest : ℕ) (text : List ℕ) {table₁ tree₁ table₂ tree₂ : List ℕ} {setting₁ setting₂ : ℕ} {r₁ r₂ : Reply}
+pub demand-3 : (text : List ℕ) {table₁ tree₁ table₂ tree₂ : List ℕ} {setting₁ setting₂ : ℕ} {r₁ r₂ : Reply}
     {table₁′ tree₁′ table₂′ tree₂′ : List ℕ} →
-    Answered idl most deepest text table₁ tree₁ setting₁ r₁ table₁′ tree₁′ → Answered idl most deepest text table₂ tree₂ setting₂ r₂ table₂′ tree₂′ →
-    good-call most deepest (length text) setting₁ ≡ true → good-call most deepest (length text) setting₂ ≡ true →
+    Answered idl text table₁ tree₁ setting₁ r₁ table₁′ tree₁′ → Answered idl text table₂ tree₂ setting₂ r₂ table₂′ tree₂′ →
+    good-call (length text) setting₁ ≡ true → good-call (length text) setting₂ ≡ true →
     setting₁ ≤ setting₂ → capacity token-width table₁ ≤ capacity token-width table₂ → capacity node-width tree₁ ≤ capacity node-width tree₂ →
     Kept (capacity token-width table₂) (capacity node-width tree₂) r₁ r₂ table₁′ table₂′ tree₁′ tree₂′
 demand-3 = larger-call
 
 -- The same of the tree part called alone, on one list of tokens:
-pub demand-3-of-the-tree-part : (most deepest : ℕ) (table : List ℕ) (count text : ℕ) {tree₁ tree₂ : List ℕ} {setting₁ setting₂ : ℕ} {r₁ r₂ : Reply}
+pub demand-3-of-the-tree-part : (table : List ℕ) (count text : ℕ) {tree₁ tree₂ : List ℕ} {setting₁ setting₂ : ℕ} {r₁ r₂ : Reply}
     {tree₁′ tree₂′ : List ℕ} →
-    TreeAnswered idl most deepest table count text tree₁ setting₁ r₁ tree₁′ → TreeAnswered idl most deepest table count text tree₂ setting₂ r₂ tree₂′ →
-    good-tree-call most deepest table count text setting₁ ≡ true → good-tree-call most deepest table count text setting₂ ≡ true →
+    TreeAnswered idl table count text tree₁ setting₁ r₁ tree₁′ → TreeAnswered idl table count text tree₂ setting₂ r₂ tree₂′ →
+    good-tree-call table count text setting₁ ≡ true → good-tree-call table count text setting₂ ≡ true →
     setting₁ ≤ setting₂ → capacity node-width tree₁ ≤ capacity node-width tree₂ →
     TreeKept text (first-records token-width count table) (capacity node-width tree₂) r₁ r₂ tree₁′ tree₂′
 demand-3-of-the-tree-part = larger-tree-call

@@ -38,10 +38,10 @@ stay text room′ ts tree₁ tree₂ (verdict.deep p) v′ s f z = absurd (omega
 stay text room′ ts tree₁ tree₂ (verdict.full r) v′ s f z = absurd (omega arith)
 stay text room′ ts tree₁ tree₂ (verdict.accepted rs) v′ s f z = rw f (same-front node-width tree₂ tree₁ (tree-wide s))
 
-module _ (most deepest : ℕ) (tokens : List ℕ) (count text : ℕ) {tree₁ tree₂ : List ℕ} {setting₁ setting₂ : ℕ} {r₁ r₂ : Reply} {tree₁′ tree₂′ : List ℕ} where
+module _ (tokens : List ℕ) (count text : ℕ) {tree₁ tree₂ : List ℕ} {setting₁ setting₂ : ℕ} {r₁ r₂ : Reply} {tree₁′ tree₂′ : List ℕ} where
   pub larger-tree-call :
-      TreeAnswered idl most deepest tokens count text tree₁ setting₁ r₁ tree₁′ → TreeAnswered idl most deepest tokens count text tree₂ setting₂ r₂ tree₂′ →
-      good-tree-call most deepest tokens count text setting₁ ≡ true → good-tree-call most deepest tokens count text setting₂ ≡ true →
+      TreeAnswered idl tokens count text tree₁ setting₁ r₁ tree₁′ → TreeAnswered idl tokens count text tree₂ setting₂ r₂ tree₂′ →
+      good-tree-call tokens count text setting₁ ≡ true → good-tree-call tokens count text setting₂ ≡ true →
       setting₁ ≤ setting₂ → capacity node-width tree₁ ≤ capacity node-width tree₂ →
       TreeKept text (first-records token-width count tokens) (capacity node-width tree₂) r₁ r₂ tree₁′ tree₂′
   larger-tree-call a b g h d n =

@@ -13,7 +13,7 @@ use Rattle.limits.specs.declared.Limits.{Limits}
 use Rattle.limits.specs.declared.Bounded.{Bounded}
 use Rattle.limits.specs.declared.Bounded.the-variants.{Good, Beyond}
 use Rattle.limits.specs.Limits.{good-text, good-depth, good-call, bounded}
-use Rattle.limits.specs.Laws.{beyond-bad, within-good}
+use Rattle.limits.proofs.Laws.{beyond-bad, within-good}
 use Rattle.replies.specs.declared.Reply.{Reply}
 use Rattle.replies.specs.Replies as rows
 use Rattle.tables.specs.Tables.{token-width, node-width, capacity, row, front, zeroed, Records, none, more}
@@ -62,18 +62,18 @@ and-first : (a b : Bool) → (a && b) ≡ true → a ≡ true
 and-first true b e = refl
 and-first false b e = e
 
-module _ (most deepest setting : ℕ) (text table tree : List ℕ) {r : Bounded} {l : Limits}
-    (made : r ≡ bounded most deepest (length text) setting) (within : r ≡ Good l) where
-  good : good-call most deepest (length text) setting ≡ true
-  good = within-good most deepest (length text) setting made within
+module _ (setting : ℕ) (text table tree : List ℕ) {r : Bounded} {l : Limits}
+    (made : r ≡ bounded (length text) setting) (within : r ≡ Good l) where
+  good : good-call (length text) setting ≡ true
+  good = within-good (length text) setting made within
 
-  good-length : good-text most (length text) ≡ true
-  good-length = and-first (good-text most (length text)) (good-depth deepest setting) good
+  good-length : good-text (length text) ≡ true
+  good-length = and-first (good-text (length text)) (good-depth setting) good
 
-  reply-is : token-reply most text table ≡ answer (length text) table (tokens-of text)
+  reply-is : token-reply text table ≡ answer (length text) table (tokens-of text)
   reply-is = rw good-length
 
-  table-is : token-table most text table ≡ filled table (tokens-of text)
+  table-is : token-table text table ≡ filled table (tokens-of text)
   table-is = rw good-length
 
   -- what a good call must answer for each meaning
@@ -101,7 +101,7 @@ module _ (most deepest setting : ℕ) (text table tree : List ℕ) {r : Bounded}
 
   -- an acceptance of the token part, judged by the tree part on the table read back
   module _ {ts : List (List ℕ)} (e : tokens-of text ≡ tokens ts) (fits : room table ts ≡ true) {reply : Reply} {tree′ : List ℕ}
-      (judged : TreeAnswered idl most deepest (front token-width ts table) (length ts) (length text) tree setting reply tree′) where
+      (judged : TreeAnswered idl (front token-width ts table) (length ts) (length text) tree setting reply tree′) where
     few : length ts ≤ capacity token-width table
     few = leb-true (length ts) (capacity token-width table) fits
 
@@ -111,7 +111,7 @@ module _ (most deepest setting : ℕ) (text table tree : List ℕ) {r : Bounded}
     room-is : capacity token-width (front token-width ts table) ≡ capacity token-width table
     room-is = rw (length-kept token-width table three-wide few)
 
-    good-tree : good-tree-call most deepest (front token-width ts table) (length ts) (length text) setting ≡ true
+    good-tree : good-tree-call (front token-width ts table) (length ts) (length text) setting ≡ true
     good-tree = rw (good, room-is, fits, le-leb (length ts) (length text) (tokens-few text e))
 
     -- the tree part's answer for every meaning of the tokens
@@ -152,8 +152,8 @@ module _ (most deepest setting : ℕ) (text table tree : List ℕ) {r : Bounded}
         both-right sense m (zeroed (front token-width ts table))
         (λ v a. zeroed-is ∙ sym (kept-refused (length text) ts table v (λ z. n (ap (λ (r : Reply). r .number) a ∙ z))))
 
-  pub refused : {reply : Reply} {tokens′ tree′ : List ℕ} → reply ≡ token-reply most text table → tokens′ ≡ token-table most text table →
-      (reply .number ≡ 0 → ⊥) → tree′ ≡ zeroed tree → Answered idl most deepest text table tree setting reply tokens′ tree′
+  pub refused : {reply : Reply} {tokens′ tree′ : List ℕ} → reply ≡ token-reply text table → tokens′ ≡ token-table text table →
+      (reply .number ≡ 0 → ⊥) → tree′ ≡ zeroed tree → Answered idl text table tree setting reply tokens′ tree′
   unfolding Right
   refused {reply} a b n c = record {
     outside = λ u. absurd (true≢false (sym good ∙ u));
@@ -170,7 +170,7 @@ module _ (most deepest setting : ℕ) (text table tree : List ℕ) {r : Bounded}
     counted : reply .tokens ≡ length list
     table-now : tokens′ ≡ front token-width list table
 
-  some-tokens : (reply : Reply) (tokens′ : List ℕ) → reply ≡ token-reply most text table → tokens′ ≡ token-table most text table →
+  some-tokens : (reply : Reply) (tokens′ : List ℕ) → reply ≡ token-reply text table → tokens′ ≡ token-table text table →
       reply .number ≡ 0 → Accepted reply tokens′
   some-tokens reply tokens′ a b z = go (tokens-of text) refl (a ∙ reply-is) (b ∙ table-is)
     where
@@ -184,16 +184,16 @@ module _ (most deepest setting : ℕ) (text table tree : List ℕ) {r : Bounded}
       go (tokens ts) e c d = roomy ts e (room table ts) refl c d
       go (fault number place) e c d = let w = ap (λ (r : Reply). r .number) c in absurd (omega (arith, fault-range number place .0))
 
-  module _ {found : Reply} {middle : List ℕ} (a : found ≡ token-reply most text table) (b : middle ≡ token-table most text table)
+  module _ {found : Reply} {middle : List ℕ} (a : found ≡ token-reply text table) (b : middle ≡ token-table text table)
       (z : found .number ≡ 0) {count : ℕ} (k : count ≡ found .tokens) {reply : Reply} {tree′ : List ℕ}
-      (judged : TreeAnswered idl most deepest middle count (length text) tree setting reply tree′) where
+      (judged : TreeAnswered idl middle count (length text) tree setting reply tree′) where
     judged-list : (x : Accepted found middle) →
-        TreeAnswered idl most deepest (front token-width (x .list) table) (length (x .list)) (length text) tree setting reply tree′
+        TreeAnswered idl (front token-width (x .list) table) (length (x .list)) (length text) tree setting reply tree′
     judged-list x =
-        subst (λ (n : ℕ). TreeAnswered idl most deepest (front token-width (x .list) table) n (length text) tree setting reply tree′) (k ∙ x .counted)
-        (subst (λ (l : List ℕ). TreeAnswered idl most deepest l count (length text) tree setting reply tree′) (x .table-now) judged)
+        subst (λ (n : ℕ). TreeAnswered idl (front token-width (x .list) table) n (length text) tree setting reply tree′) (k ∙ x .counted)
+        (subst (λ (l : List ℕ). TreeAnswered idl l count (length text) tree setting reply tree′) (x .table-now) judged)
 
-    pub accepted : reply .number ≡ 0 → Answered idl most deepest text table tree setting reply middle tree′
+    pub accepted : reply .number ≡ 0 → Answered idl text table tree setting reply middle tree′
     unfolding Right
     accepted n =
         let x = some-tokens found middle a b z in
@@ -205,7 +205,7 @@ module _ (most deepest setting : ℕ) (text table tree : List ℕ) {r : Bounded}
         }
 
     pub denied : {tokens′ : List ℕ} → (reply .number ≡ 0 → ⊥) → tokens′ ≡ zeroed middle →
-        Answered idl most deepest text table tree setting reply tokens′ tree′
+        Answered idl text table tree setting reply tokens′ tree′
     unfolding Right
     denied n c =
         let x = some-tokens found middle a b z in
@@ -217,10 +217,10 @@ module _ (most deepest setting : ℕ) (text table tree : List ℕ) {r : Bounded}
         }
 
 -- a bad call
-pub beyond : (most deepest setting : ℕ) (text table tree : List ℕ) {r : Bounded} {reply : Reply} →
-    r ≡ bounded most deepest (length text) setting → r ≡ Beyond → reply ≡ rows.outside-limits →
-    Answered idl most deepest text table tree setting reply table tree
-beyond most deepest setting text table tree a b e = record {
+pub beyond : (setting : ℕ) (text table tree : List ℕ) {r : Bounded} {reply : Reply} →
+    r ≡ bounded (length text) setting → r ≡ Beyond → reply ≡ rows.outside-limits →
+    Answered idl text table tree setting reply table tree
+beyond setting text table tree a b e = record {
   outside = λ u. (e, (refl, refl));
-  inside = λ u. absurd (true≢false (sym u ∙ beyond-bad most deepest (length text) setting a b));
+  inside = λ u. absurd (true≢false (sym u ∙ beyond-bad (length text) setting a b));
 }

@@ -17,11 +17,9 @@ fn index(n: u32) -> usize
 
 // Reads a text into a token table and a tree table, with a depth setting.
 pub fn read(text: &[u8], tokens: &mut [u32], tree: &mut [u32], depth: u32) -> Reply
-    ensures { λ r. do
-      most ← ⟦Limits::TEXT⟧ .entry
-      deepest ← ⟦Limits::DEPTH⟧ .entry
-      ⌜ Answered idl most deepest (now (text .entry)) (now (tokens .entry)) (now (tree .entry)) depth r
-          (now (tokens .exit)) (now (tree .exit)) ⌝ }
+    ensures { λ r.
+        ⌜ Answered idl (now (text .entry)) (now (tokens .entry)) (now (tree .entry)) depth r
+        (now (tokens .exit)) (now (tree .exit)) ⌝ }
 {
     let limits = Limits::new(text.len(), depth);
     let Bounded::Good(_) = limits else {

@@ -1,11 +1,13 @@
 -- From what reading the whole text finds to the reply and the table: the tokens have room, or have none, or there is a fault.
 -- Each rewrites the definitions by what was found. Assumes nothing.
 use mathlib.Core.List.{List}
+use mathlib.Core.Bool.{true, false}
 use mathlib.Core.Path.{_≡_, refl, _∙_}
-use Prim.Native.Nat.{ℕ, _≤_, _<_}
+use Prim.Native.Nat.{ℕ, _^_, _≤_, _<_}
 use native.Mathlib.Omega.{arith}
-use borrow.Author.Tests.{le-leb, lt-leb}
+use borrow.Author.Tests.{le-leb, lt-leb, leb-true}
 use lib.ListN.{length}
+use Rattle.limits.specs.Limits.{text-ceiling, good-text}
 use Rattle.replies.specs.declared.Reply.{Reply}
 use Rattle.replies.specs.Replies as rows
 use Rattle.tables.specs.Tables.{token-width, capacity, store, zeroed}
@@ -30,29 +32,33 @@ faulted : {whole : Tokens} {table after : List ℕ} {reply : Reply} (n : ℕ) �
     (reply ≡ answer n table whole) × (zeroed table ≡ filled table whole)
 faulted n (first-fault number place) = (refl, refl)
 
-module _ (most : ℕ) (text table : List ℕ) (short : length text ≤ most) {after : List ℕ} where
+-- the places and counts of a good text fit 32 bits
+pub short : (n : ℕ) → good-text n ≡ true → n < 2 ^ 32
+short n good = omega (arith, leb-true n text-ceiling good)
+
+module _ (text table : List ℕ) (good : good-text (length text) ≡ true) {after : List ℕ} where
   pub few : {n : ℕ} → Scanned (tokens-of text) table after (found.Tokens n) → n ≤ length text
   few s = let k = counted s in let h = tokens-few text (k .all) in omega (arith, k .count)
 
   pub fault-answered : {reply : Reply} → Scanned (tokens-of text) table after (found.Fault reply) →
-      (reply ≡ token-reply most text table) × (zeroed table ≡ token-table most text table)
-  fault-answered s = simp (le-leb _ _ short) (faulted (length text) s)
+      (reply ≡ token-reply text table) × (zeroed table ≡ token-table text table)
+  fault-answered s = simp (good) (faulted (length text) s)
 
   pub room-answered : {n : ℕ} → Scanned (tokens-of text) table after (found.Tokens n) → n ≤ capacity token-width table →
-      (rows.accepted (length text) n 0 ≡ token-reply most text table) × (after ≡ token-table most text table)
+      (rows.accepted (length text) n 0 ≡ token-reply text table) × (after ≡ token-table text table)
   room-answered {n} s h =
       let k = counted s in
       let fits : length (k .list) ≤ capacity token-width table = omega (arith, k .count) in
       let stored = k .stored ∙ store-front token-width table (tokens-records text (k .all)) (capacity-fits token-width table (length (k .list)) fits) in
-      simp (le-leb _ _ short, k .all, le-leb _ _ fits) (rw (k .count) refl, stored)
+      simp (good, k .all, le-leb _ _ fits) (rw (k .count) refl, stored)
 
   pub full-answered : {n : ℕ} → Scanned (tokens-of text) table after (found.Tokens n) → capacity token-width table < n →
-      (rows.more-tokens (length text) n ≡ token-reply most text table) × (zeroed table ≡ token-table most text table)
+      (rows.more-tokens (length text) n ≡ token-reply text table) × (zeroed table ≡ token-table text table)
   full-answered {n} s h =
       let k = counted s in
       let full : capacity token-width table < length (k .list) = omega (arith, k .count) in
-      simp (le-leb _ _ short, k .all, lt-leb _ _ full) (rw (k .count) refl, refl)
+      simp (good, k .all, lt-leb _ _ full) (rw (k .count) refl, refl)
 
-pub refused : (most : ℕ) (text table : List ℕ) → most < length text →
-    (rows.outside-limits ≡ token-reply most text table) × (table ≡ token-table most text table)
-refused most text table h = simp (lt-leb _ _ h) (refl, refl)
+pub refused : (text table : List ℕ) → good-text (length text) ≡ false →
+    (rows.outside-limits ≡ token-reply text table) × (table ≡ token-table text table)
+refused text table bad = simp bad (refl, refl)

@@ -1,5 +1,5 @@
 -- What the token part answers, and what its table holds afterwards: paper 01, "What the reader says", replies 0 to 6.
--- Functions of what the text is as tokens, of the table and of the text's ceiling. Assumes nothing: these are definitions.
+-- Functions of what the text is as tokens and of the table. Assumes nothing: these are definitions.
 use mathlib.Core.Bool.{Bool, cond}
 use mathlib.Core.List.{List}
 use Prim.Native.Nat.{ℕ}
@@ -27,13 +27,13 @@ abbrev pub filled : List ℕ → Tokens → List ℕ
 filled table (tokens ts) = cond (room table ts) (front token-width ts table) (zeroed table)
 filled table (fault number place) = zeroed table
 
--- the reply to any call, with the ceiling of the text's length
-abbrev pub token-reply : (most : ℕ) (text table : List ℕ) → Reply
-token-reply most text table = cond (good-text most (length text)) (answer (length text) table (tokens-of text)) rows.outside-limits
+-- the reply to any call
+abbrev pub token-reply : (text table : List ℕ) → Reply
+token-reply text table = cond (good-text (length text)) (answer (length text) table (tokens-of text)) rows.outside-limits
 
 -- the table after any call: reply 1 leaves it untouched
-abbrev pub token-table : (most : ℕ) (text table : List ℕ) → List ℕ
-token-table most text table = cond (good-text most (length text)) (filled table (tokens-of text)) table
+abbrev pub token-table : (text table : List ℕ) → List ℕ
+token-table text table = cond (good-text (length text)) (filled table (tokens-of text)) table
 
 -- reading the whole text finds its tokens, and leaves as many of their records as fit in the table; or it finds the first fault
 pub data Scanned : Tokens → (table after : List ℕ) → Found → Type 0 where

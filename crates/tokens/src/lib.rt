@@ -55,14 +55,10 @@ fn scan(text: &[u8], tokens: &mut [u32]) -> Found
 
 // The token part. The text is read for its faults before the table's room counts.
 pub fn read_tokens(text: &[u8], tokens: &mut [u32]) -> Reply
-    ensures reply { λ r. do
-      most ← ⟦Limits::TEXT⟧ .entry
-      ⌜ r ≡ token-reply most (now (text .entry)) (now (tokens .entry)) ⌝ }
-    ensures table { λ _. do
-      most ← ⟦Limits::TEXT⟧ .entry
-      ⌜ now (tokens .exit) ≡ token-table most (now (text .entry)) (now (tokens .entry)) ⌝ }
+    ensures reply { λ r. ⌜ r ≡ token-reply (now (text .entry)) (now (tokens .entry)) ⌝ }
+    ensures table { λ _. ⌜ now (tokens .exit) ≡ token-table (now (text .entry)) (now (tokens .entry)) ⌝ }
 {
-    if Limits::TEXT < text.len() {
+    if !Limits::takes(text.len()) {
         return Reply::outside_limits();
     }
     let found = scan(text, tokens);

@@ -13,8 +13,8 @@ use Rattle.grammar.specs.Idl.{idl}
 use Rattle.limits.specs.declared.Limits.{Limits}
 use Rattle.limits.specs.declared.Bounded.{Bounded}
 use Rattle.limits.specs.declared.Bounded.the-variants.{Good, Beyond}
-use Rattle.limits.specs.Limits.{good-text, good-depth, good-call, bounded}
-use Rattle.limits.specs.Laws.{beyond-bad, within-good}
+use Rattle.limits.specs.Limits.{text-ceiling, good-text, good-depth, good-call, bounded}
+use Rattle.limits.proofs.Laws.{beyond-bad, within-good}
 use Rattle.prediction.specs.Plan.{call}
 use Rattle.replies.specs.declared.Reply.{Reply}
 use Rattle.replies.specs.Replies.{outside-limits}
@@ -33,36 +33,34 @@ and-left : (a b : Bool) → (a && b) ≡ true → a ≡ true
 and-left true b e = refl
 and-left false b e = absurd (false≢true e)
 
-module _ (most deepest : ℕ) (tokens : List ℕ) (count text : ℕ) (tree : List ℕ) (setting : ℕ) where
+module _ (tokens : List ℕ) (count text : ℕ) (tree : List ℕ) (setting : ℕ) where
   -- a bad call
-  refused : good-tree-call most deepest tokens count text setting ≡ false → {reply : Reply} → reply ≡ outside-limits →
-      TreeAnswered idl most deepest tokens count text tree setting reply tree
+  refused : good-tree-call tokens count text setting ≡ false → {reply : Reply} → reply ≡ outside-limits →
+      TreeAnswered idl tokens count text tree setting reply tree
   refused b e = record { outside = λ u. (e, refl); inside = λ u. absurd (true≢false (sym u ∙ b)) }
 
-  pub beyond : {r : Bounded} {reply : Reply} → r ≡ bounded most deepest text setting → r ≡ Beyond → reply ≡ outside-limits →
-      TreeAnswered idl most deepest tokens count text tree setting reply tree
-  beyond a b e = refused (rw (beyond-bad most deepest text setting a b)) e
+  pub beyond : {r : Bounded} {reply : Reply} → r ≡ bounded text setting → r ≡ Beyond → reply ≡ outside-limits →
+      TreeAnswered idl tokens count text tree setting reply tree
+  beyond a b e = refused (rw (beyond-bad text setting a b)) e
 
   pub too-many : {reply : Reply} → capacity token-width tokens < count → reply ≡ outside-limits →
-      TreeAnswered idl most deepest tokens count text tree setting reply tree
-  too-many h e = refused (rw (lt-leb count (capacity token-width tokens) h) (and-false (good-call most deepest text setting))) e
+      TreeAnswered idl tokens count text tree setting reply tree
+  too-many h e = refused (rw (lt-leb count (capacity token-width tokens) h) (and-false (good-call text setting))) e
 
   pub too-short : {reply : Reply} → text < count → reply ≡ outside-limits →
-      TreeAnswered idl most deepest tokens count text tree setting reply tree
+      TreeAnswered idl tokens count text tree setting reply tree
   too-short h e =
       refused
-      (rw (lt-leb count text h, and-false (leb count (capacity token-width tokens))) (and-false (good-call most deepest text setting))) e
+      (rw (lt-leb count text h, and-false (leb count (capacity token-width tokens))) (and-false (good-call text setting))) e
 
   -- a good call
-  module _ {r : Bounded} {l : Limits} (a : r ≡ bounded most deepest text setting) (b : r ≡ Good l) (few : count ≤ capacity token-width tokens)
-      (inside : count ≤ text) (ceiling : most < 2 ^ 26) where
-    good : good-call most deepest text setting ≡ true
-    good = within-good most deepest text setting a b
+  module _ {r : Bounded} {l : Limits} (a : r ≡ bounded text setting) (b : r ≡ Good l) (few : count ≤ capacity token-width tokens)
+      (inside : count ≤ text) where
+    good : good-call text setting ≡ true
+    good = within-good text setting a b
 
     pub text-small : text < 2 ^ 26
-    text-small =
-        let h = leb-true text most (and-left (good-text most text) (good-depth deepest setting) good) in
-        omega arith
+    text-small = omega (arith, leb-true text text-ceiling (and-left (good-text text) (good-depth setting) good))
 
     pub list-short : length (take (token-width * count) tokens) < 2 ^ 32
     list-short =
@@ -73,7 +71,7 @@ module _ (most deepest : ℕ) (tokens : List ℕ) (count text : ℕ) (tree : Lis
     pub answered : {s : ℕ} {w : List ℕ} {reply : Reply} {tree′ : List ℕ} → length w ≡ length tree →
         Reads (take (token-width * count) tokens) setting (call 1) (0, tree) (s, w) →
         reply ≡ concluded (take (token-width * count) tokens) w count text (view s) → tree′ ≡ kept-tree w count (view s) →
-        TreeAnswered idl most deepest tokens count text tree setting reply tree′
+        TreeAnswered idl tokens count text tree setting reply tree′
     answered {s} {w} same reads e f = record {
       outside = λ u. absurd (true≢false (sym (rw (good, le-leb count (capacity token-width tokens) few, le-leb count text inside)) ∙ u));
       inside = λ u sense m.

@@ -56,10 +56,7 @@ fn conclude(list: &[u32], count: u32, text: u32, tree: &mut [u32], s: Reading) -
 
 // The tree part, on a token table that it only reads, for a text of this length.
 pub fn read_tree(tokens: &[u32], count: usize, text: usize, tree: &mut [u32], depth: u32) -> Reply
-    ensures { λ r. do
-      most ← ⟦Limits::TEXT⟧ .entry
-      deepest ← ⟦Limits::DEPTH⟧ .entry
-      ⌜ TreeAnswered idl most deepest (now (tokens .entry)) count text (now (tree .entry)) depth r (now (tree .exit)) ⌝ }
+    ensures { λ r. ⌜ TreeAnswered idl (now (tokens .entry)) count text (now (tree .entry)) depth r (now (tree .exit)) ⌝ }
 {
     let limits = Limits::new(text, depth);
     let Bounded::Good(_) = limits else {

@@ -10,7 +10,7 @@ returns : tie.Need-returns
 returns c =
     let at-new = c .before .before .before in
     let at-args = at-new .before .before .before .before in
-    beyond _ _ (at-args .args .depth) (at-args .args .text .now) (at-args .args .tokens .now)
+    beyond (at-args .args .depth) (at-args .args .text .now) (at-args .args .tokens .now)
     (at-args .args .tree .now) (at-new .new .ensures) (c .before .enum-told2 .given .1)
     (c .outside-limits .ensures)
 
@@ -22,7 +22,7 @@ returns-2 c =
     let at-enum-told = at-read-tokens .before .before in
     let at-new = at-enum-told .before .before in
     let at-args = at-new .before .before .before .before in
-    refused _ _ (at-args .args .depth) (at-args .args .text .now) (at-args .args .tokens .now)
+    refused (at-args .args .depth) (at-args .args .text .now) (at-args .args .tokens .now)
     (at-args .args .tree .now) (at-new .new .ensures) (at-enum-told .enum-told .given .1)
     (at-read-tokens .read-tokens .ensures .0) (at-read-tokens .read-tokens .ensures .1) (at-if1 .if1 .taken)
     (at-clear .clear .ensures)
@@ -38,7 +38,7 @@ returns-3 c =
     let at-enum-told = at-read-tokens .before .before in
     let at-new = at-enum-told .before .before in
     let at-args = at-new .before .before .before .before in
-    accepted _ _ (at-args .args .depth) (at-args .args .text .now) (at-args .args .tokens .now)
+    accepted (at-args .args .depth) (at-args .args .text .now) (at-args .args .tokens .now)
     (at-args .args .tree .now) (at-new .new .ensures) (at-enum-told .enum-told .given .1)
     (at-read-tokens .read-tokens .ensures .0) (at-read-tokens .read-tokens .ensures .1) (omega arith)
     (at-index .index .ensures) (at-read-tree .read-tree .ensures) (c .if2 .taken)
@@ -53,7 +53,7 @@ returns-4 c =
     let at-enum-told = at-read-tokens .before .before in
     let at-new = at-enum-told .before .before in
     let at-args = at-new .before .before .before .before in
-    denied _ _ (at-args .args .depth) (at-args .args .text .now) (at-args .args .tokens .now)
+    denied (at-args .args .depth) (at-args .args .text .now) (at-args .args .tokens .now)
     (at-args .args .tree .now) (at-new .new .ensures) (at-enum-told .enum-told .given .1)
     (at-read-tokens .read-tokens .ensures .0) (at-read-tokens .read-tokens .ensures .1) (omega arith)
     (at-index .index .ensures) (at-read-tree .read-tree .ensures) (at-if2 .if2 .left) (at-clear2 .clear2 .ensures)

@@ -12,19 +12,19 @@ returns : tie.Need-returns
 returns c =
     let at-new = c .before .before .before in
     let at-args = at-new .before .before .before in
-    beyond _ _ (at-args .args .tokens .now) (at-args .args .count) (at-args .args .text) (at-args .args .tree .now)
+    beyond (at-args .args .tokens .now) (at-args .args .count) (at-args .args .text) (at-args .args .tree .now)
     (at-args .args .depth) (at-new .new .ensures) (c .before .enum-told2 .given .1) (c .outside-limits .ensures)
 
 returns-2 : tie.Need-returns-2
 returns-2 c =
     let at-args = c .before .before .before .before .before .before .before in
-    too-many _ _ (at-args .args .tokens .now) (at-args .args .count) (at-args .args .text)
+    too-many (at-args .args .tokens .now) (at-args .args .count) (at-args .args .text)
     (at-args .args .tree .now) (at-args .args .depth) (c .before .if1 .taken) (c .outside-limits2 .ensures)
 
 returns-3 : tie.Need-returns-3
 returns-3 c =
     let at-args = c .before .before .before .before .before .before .before .before in
-    too-short _ _ (at-args .args .tokens .now) (at-args .args .count) (at-args .args .text)
+    too-short (at-args .args .tokens .now) (at-args .args .count) (at-args .args .text)
     (at-args .args .tree .now) (at-args .args .depth) (c .before .if2 .taken) (c .outside-limits3 .ensures)
 
 slice-aggregate-list : tie.Need-slice-aggregate-list
@@ -37,9 +37,9 @@ specification-requires c κs =
     let at-enum-told = at-if1 .before in
     let at-new = at-enum-told .before .before in
     let at-args = at-new .before .before .before in
-    list-short _ _ (at-args .args .tokens .now) (at-args .args .count) (at-args .args .text)
+    list-short (at-args .args .tokens .now) (at-args .args .count) (at-args .args .text)
     (at-args .args .tree .now) (at-args .args .depth) (at-new .new .ensures) (at-enum-told .enum-told .given .1)
-    (at-if1 .if1 .left) (at-if2 .if2 .left) (omega arith)
+    (at-if1 .if1 .left) (at-if2 .if2 .left)
 
 cast-conclude : tie.Need-cast-conclude
 cast-conclude c =
@@ -50,8 +50,8 @@ cast-conclude c =
     let at-args = at-new .before .before .before in
     omega (
       arith,
-      text-small _ _ (at-args .args .tokens .now) (at-args .args .count) (at-args .args .text) (at-args .args .tree .now) (at-args .args .depth)
-          (at-new .new .ensures) (at-enum-told .enum-told .given .1) (at-if1 .if1 .left) (at-if2 .if2 .left) (omega arith),
+      text-small (at-args .args .tokens .now) (at-args .args .count) (at-args .args .text) (at-args .args .tree .now) (at-args .args .depth)
+          (at-new .new .ensures) (at-enum-told .enum-told .given .1) (at-if1 .if1 .left) (at-if2 .if2 .left),
     )
 
 cast-conclude-2 : tie.Need-cast-conclude-2
@@ -63,8 +63,8 @@ cast-conclude-2 c =
     let at-args = at-new .before .before .before in
     omega (
       arith,
-      text-small _ _ (at-args .args .tokens .now) (at-args .args .count) (at-args .args .text) (at-args .args .tree .now) (at-args .args .depth)
-          (at-new .new .ensures) (at-enum-told .enum-told .given .1) (at-if1 .if1 .left) (at-if2 .if2 .left) (omega arith),
+      text-small (at-args .args .tokens .now) (at-args .args .count) (at-args .args .text) (at-args .args .tree .now) (at-args .args .depth)
+          (at-new .new .ensures) (at-enum-told .enum-told .given .1) (at-if1 .if1 .left) (at-if2 .if2 .left),
     )
 
 returns-4 : tie.Need-returns-4
@@ -76,9 +76,9 @@ returns-4 c =
     let at-enum-told = at-if1 .before in
     let at-new = at-enum-told .before .before in
     let at-args = at-new .before .before .before in
-    answered _ _ (at-args .args .tokens .now) (at-args .args .count) (at-args .args .text)
+    answered (at-args .args .tokens .now) (at-args .args .count) (at-args .args .text)
     (at-args .args .tree .now) (at-args .args .depth) (at-new .new .ensures) (at-enum-told .enum-told .given .1)
-    (at-if1 .if1 .left) (at-if2 .if2 .left) (omega arith) (at-specification .specification .kept .1 .0)
+    (at-if1 .if1 .left) (at-if2 .if2 .left) (at-specification .specification .kept .1 .0)
     (at-specification .specification .ensures) (at-conclude .conclude .ensures .0)
     (at-conclude .conclude .ensures .1)
 

@@ -17,9 +17,9 @@ is-good : (b : Bool) (l m : Limits) → cond b (Good l) Beyond ≡ Good m → b 
 is-good true l m e = refl
 is-good false l m e = let z : _≡_ {A = ℕ} 0 1 = cc in absurd (omega arith)
 
-module _ (most deepest text setting : ℕ) {r : Bounded} (e : r ≡ bounded most deepest text setting) where
-  pub beyond-bad : r ≡ Beyond → good-call most deepest text setting ≡ false
-  beyond-bad b = not-good (good-call most deepest text setting) _ (sym e ∙ b)
+module _ (text setting : ℕ) {r : Bounded} (e : r ≡ bounded text setting) where
+  pub beyond-bad : r ≡ Beyond → good-call text setting ≡ false
+  beyond-bad b = not-good (good-call text setting) _ (sym e ∙ b)
 
-  pub within-good : {l : Limits} → r ≡ Good l → good-call most deepest text setting ≡ true
-  within-good {l} b = is-good (good-call most deepest text setting) _ l (sym e ∙ b)
+  pub within-good : {l : Limits} → r ≡ Good l → good-call text setting ≡ true
+  within-good {l} b = is-good (good-call text setting) _ l (sym e ∙ b)
