@@ -1,7 +1,5 @@
 pub mod Deep
 pub mod Sense
 pub mod Verdict
-pub mod Larger
 pub mod Answer
 pub mod Calls
-pub mod Laws

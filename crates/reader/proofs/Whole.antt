@@ -25,7 +25,7 @@ use Rattle.meaning.specs.Sense.{Sense, Means, TextSense, read, TextMeans, means
 use Rattle.meaning.specs.Verdict as verdicts
 use Rattle.meaning.specs.Verdict.{Verdict, verdict, text-verdict}
 use Rattle.meaning.specs.Answer.{tree-reply, tree-after, text-reply, tokens-kept, text-tokens-after, text-tree-after}
-use Rattle.meaning.specs.Laws.{fault-range}
+use Rattle.meaning.proofs.Laws.{fault-range}
 use Rattle.meaning.specs.Calls.{Answered, first-records, good-tree-call, TreeAnswered}
 
 -- the records at the front of a table, read back

@@ -22,7 +22,7 @@ use Rattle.prediction.specs.Verdict.{Says, says-derived, says-more, says-blamed
 use Rattle.tables.specs.Tables.{capacity, store, zeroed, Records, token-width, node-width}
 use Rattle.tables.specs.Laws.{store-front, capacity-fits}
 use Rattle.meaning.specs.Sense.{Sense, Means, kind, numbers, tree-records}
-use Rattle.meaning.specs.Laws.{four-wide}
+use Rattle.meaning.proofs.Laws.{four-wide}
 use Rattle.meaning.specs.Verdict as verdict
 use Rattle.meaning.specs.Verdict.{Verdict, verdict}
 use Rattle.meaning.specs.Answer.{tree-reply, tree-after}

@@ -12,7 +12,8 @@ use Rattle.grammar.specs.Forest.{Forest}
 use Rattle.grammar.specs.Rule.{Edition}
 use Rattle.grammar.specs.Derivation.{kind-at}
 use Rattle.grammar.specs.Blame.{Begins, Blame}
-use Rattle.meaning.specs.Deep.{first-too-deep, first-is, first-relation, first-after}
+use Rattle.meaning.specs.Deep.{first-too-deep}
+use Rattle.meaning.proofs.Deep.{first-is, first-relation, first-after}
 use Rattle.meaning.specs.Sense.{Sense, Means, means-blame, means-tree, tree-records}
 use Rattle.meaning.specs.Verdict.{Verdict, grammar, deep, full, accepted, judged, verdict}
 use Rattle.prediction.specs.Check.{Checked}

@@ -1,0 +1,3 @@
+pub mod Deep
+pub mod SecondCall
+pub mod Laws

@@ -1,0 +1,74 @@
+-- The demands in their words: what an acceptance and a grammar refusal say of the text, and how a second call follows from a first.
+-- Assumes nothing: these are definitions. That each call meets them is shown in proofs/; proofs/Main.antt is the page to read.
+use Prim.Native.Nat.{ℕ, _*_, _≤_, _<_}
+use mathlib.Core.Path.{_≡_}
+use mathlib.Core.Logic.{_⊎_}
+use mathlib.Core.List.{List, map}
+use lib.ListN.{length, take}
+use Rattle.grammar.specs.Blame.{Blame}
+use Rattle.grammar.specs.Depth.{Within}
+use Rattle.grammar.specs.Derivation.{kind-at, Derivation}
+use Rattle.grammar.specs.Forest.{Forest}
+use Rattle.grammar.specs.Rule.{Edition}
+use Rattle.replies.specs.declared.Reply.{Reply}
+use Rattle.replies.specs.Replies as rows
+use Rattle.tables.specs.Tables.{capacity, front, token-width, node-width}
+use Rattle.text.specs.Tokens.{tokens, tokens-of}
+use Rattle.meaning.specs.Sense.{kind, tree-records}
+use Rattle.meaning.specs.Verdict as verdict
+use Rattle.meaning.specs.Verdict.{Verdict}
+use Rattle.meaning.specs.Answer.{place, tree-reply}
+
+-- Demand 2, an acceptance: the text splits into lexemes, the grammar derives its tokens, room and depth are enough; the reply has its place
+-- and both counts, and the tables hold the tokens and the tree
+pub record Accepted (E : Edition) (text table tree : List ℕ) (setting : ℕ) (r : Reply) (table′ tree′ : List ℕ) : Type 0 where
+  pub list : List (List ℕ)
+  pub forest : Forest
+  pub splits : tokens-of text ≡ tokens list
+  pub derives : Derivation E (map kind list) forest
+  pub tokens-fit : length list ≤ capacity token-width table
+  pub records-fit : length (tree-records E forest) ≤ capacity node-width tree
+  pub shallow : Within (kind-at (map kind list)) setting 0 (length (map kind list))
+  pub said : r ≡ rows.accepted (length text) (length list) (length (tree-records E forest))
+  pub tokens-written : table′ ≡ front token-width list table
+  pub tree-written : tree′ ≡ front node-width (tree-records E forest) tree
+
+-- Demand 2, a grammar refusal: the text splits into lexemes, its tokens fit, they have this place of blame, and no opening mark before it
+-- exceeds the depth setting; the reply names its byte and the tokens
+pub record Blamed (E : Edition) (text table : List ℕ) (setting : ℕ) (r : Reply) : Type 0 where
+  pub list : List (List ℕ)
+  pub token : ℕ
+  pub splits : tokens-of text ≡ tokens list
+  pub blame : Blame E (map kind list) token
+  pub tokens-fit : length list ≤ capacity token-width table
+  pub shallow : Within (kind-at (map kind list)) setting 0 token
+  pub said : r ≡ rows.grammar (place (length text) list token) (length list)
+
+-- "Replies 2 to 5 and 7 blame the text; 6, 8 and 9 don't."
+unfoldable pub Blames : ℕ → Type 0
+Blames number = ((2 ≤ number) × (number ≤ 5)) ⊎ (number ≡ 7)
+
+-- Demand 3, the second call with depth and tables nowhere smaller: how its reply r′ and its tables follow from those of the first
+pub record Kept (r r′ : Reply) (tokens tokens′ tree tree′ : List ℕ) : Type 0 where
+  -- "an acceptance stays, with the same counts and records"
+  pub acceptance : r .number ≡ 0 →
+      (r′ ≡ r) × ((take (token-width * r .tokens) tokens′ ≡ take (token-width * r .tokens) tokens)
+      × (take (node-width * r .records) tree′ ≡ take (node-width * r .records) tree))
+  -- "a blame of the text stays, number, place and counts"
+  pub blame : Blames (r .number) → r′ ≡ r
+  -- "A depth refusal's place, and any before it, is never blamed later."
+  pub depth : r .number ≡ 8 → Blames (r′ .number) → r .place < r′ .place
+
+-- Demand 3, "A full-table refusal names the count needed, and a call that differs only in that table gets it again exactly when its table
+-- holds fewer": the second call's table holds room′ records
+pub record Again (count room′ : ℕ) (r r′ : Reply) : Type 0 where
+  pub below : room′ < count → r′ ≡ r
+  pub only-below : r′ .number ≡ r .number → room′ < count
+
+-- Demand 3 of the tree part, where "Places are compared by the number of the token blamed or refused": v and v′ are the two verdicts
+pub record TreeKept (text : ℕ) (list : List (List ℕ)) (v v′ : Verdict) (r r′ : Reply) (tree tree′ : List ℕ) : Type 0 where
+  pub said : r ≡ tree-reply text list v
+  pub said-later : r′ ≡ tree-reply text list v′
+  pub acceptance : r .number ≡ 0 → (r′ ≡ r) × (take (node-width * r .records) tree′ ≡ take (node-width * r .records) tree)
+  pub blame : r .number ≡ 7 → (r′ ≡ r) × (v′ ≡ v)
+  pub depth : (p q : ℕ) → v ≡ verdict.deep p → v′ ≡ verdict.grammar q → p < q
