@@ -27,4 +27,3 @@ pub mod Verdict
 pub mod Bound
 pub mod Theorems
 pub mod Transport
-pub mod Samples

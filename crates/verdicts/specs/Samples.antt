@@ -1,53 +1,24 @@
--- The starred rows of paper 01's sample table, one table with one computed statement, about the meaning of each text.
--- The answer is computed through the reader of `prediction`, whose outcome is the verdict of every meaning of the text.
+-- The starred rows of paper 01, "Sample texts", as one table in the paper's order, and what it is for a row to hold.
+-- Assumes nothing: these are definitions. That every row holds is shown in proofs/Samples.antt.
 use Prim.Native.Nat.{ℕ}
 use Prim.Native.String.{String}
-use mathlib.Core.Path.{_≡_, refl, ap, sym, _∙_}
-use mathlib.Core.Bool.{Bool, true, false, cond}
-use mathlib.Core.List.{List, [], _∷_, map}
-use lib.Dec.{ltb}
+use mathlib.Core.Path.{_≡_}
+use mathlib.Core.List.{List, [], _∷_}
 use lib.ListN.{length}
 use Rattle.kinds.specs.Kinds.{bytes}
 use Rattle.grammar.specs.Idl.{idl}
-use Rattle.text.specs.Tokens as text
 use Rattle.replies.specs.declared.Reply.{Reply}
 use Rattle.replies.specs.Replies.{reply}
-use Rattle.meaning.specs.Sense.{TextSense, TextMeans, means-fault, means-tokens, kind}
-use Rattle.meaning.specs.Verdict.{Verdict, grammar, deep, full, accepted, TextVerdict, fault, full-tokens, judgement, text-verdict}
+use Rattle.meaning.specs.Sense.{TextSense, TextMeans}
+use Rattle.meaning.specs.Verdict.{grammar, deep, full, accepted, TextVerdict, fault, full-tokens, judgement, text-verdict}
 use Rattle.meaning.specs.Answer.{text-reply}
-use Rattle.prediction.specs.Check.{table}
-use Rattle.prediction.specs.IdlPlans.{idl-prediction}
-use Rattle.prediction.specs.IdlChecked.{idl-checked}
-use Rattle.prediction.specs.Theorems.{parse}
-use Rattle.prediction.specs.Verdict.{says}
-use Rattle.verdicts.specs.Outcomes.{of-outcome, outcome-verdict}
 
--- a call: its text, its depth setting, and the records that its token table and its tree table hold
-pub record Call : Type 0 where
-  pub text : String
-  pub setting : ℕ
-  pub token-room : ℕ
-  pub tree-room : ℕ
+-- a text, its depth setting, the records that its token table and its tree table hold;
+-- the reply with its number, place and both counts, and the tree records where the text is accepted
+pub data Row : Type 0 where
+  row : (text : String) (setting token-room tree-room : ℕ) (said : Reply) (tree : List (List ℕ)) → Row
 
--- the verdict on a text's tokens, computed
-unfoldable pub computed : (setting token-room tree-room : ℕ) → text.Tokens → TextVerdict
-unfolding of-outcome parse table
-computed setting token-room tree-room (text.fault number place) = fault number place
-computed setting token-room tree-room (text.tokens ts) =
-    cond (ltb token-room (length ts)) (full-tokens (length ts))
-    (judgement ts (of-outcome idl (length (map kind ts)) tree-room (parse idl-checked setting (map kind ts) .0)))
-
--- it is the verdict of every meaning of the text
-pub computed-right : (setting token-room tree-room : ℕ) (whole : List ℕ) (s : TextSense) → TextMeans idl whole s →
-    computed setting token-room tree-room (text.tokens-of whole) ≡ text-verdict setting token-room tree-room s
-unfolding computed text-verdict
-computed-right setting token-room tree-room whole s (means-fault e) = rw e
-computed-right setting token-room tree-room whole s (means-tokens {ts = ts} e m) =
-    let ks = map kind ts in
-    let x = parse idl-checked setting ks in
-    rw (e, outcome-verdict idl-checked setting tree-room ks (says idl-checked setting ks (x .0) (x .1)) m)
-
--- what a call answers: its reply, and its tree records where the text is accepted
+-- the tree records that a verdict accepts
 unfoldable pub tree-of : TextVerdict → List (List ℕ)
 tree-of (fault number place) = []
 tree-of (full-tokens t) = []
@@ -56,66 +27,44 @@ tree-of (judgement ts (deep p)) = []
 tree-of (judgement ts (full r)) = []
 tree-of (judgement ts (accepted rs)) = rs
 
-pub record Answer : Type 0 where
-  pub said : Reply
-  pub tree : List (List ℕ)
+-- a row holds: for every meaning of its text the verdict gives this reply and these tree records
+unfoldable pub Holds : Row → Type 0
+Holds (row text setting token-room tree-room said tree) =
+    (s : TextSense) → TextMeans idl (bytes text) s →
+    let v = text-verdict setting token-room tree-room s in (text-reply (length (bytes text)) v ≡ said) × (tree-of v ≡ tree)
 
-unfoldable pub answer : Call → Answer
-unfolding bytes computed text.tokens-of text-reply tree-of
-answer c =
-    let v = computed (c .setting) (c .token-room) (c .tree-room) (text.tokens-of (bytes (c .text))) in
-    record { said = text-reply (length (bytes (c .text))) v; tree = tree-of v }
+-- every row of a table is so
+pub data All (P : Row → Type 0) : List Row → Type 0 where
+  none : All P []
+  more : {r : Row} {rs : List Row} → P r → All P rs → All P (r ∷ rs)
 
--- a call with ample tables
-abbrev ample : String → (setting : ℕ) → Call
-ample t d = record { text = t; setting = d; token-room = 64; tree-room = 64 }
-
-abbrev refused : (number place tokens records : ℕ) → Answer
-refused number place tokens records = record { said = reply number place tokens records; tree = [] }
-
+-- a tree record
 abbrev node : (rule first past size : ℕ) → List ℕ
 node rule first past size = rule ∷ first ∷ past ∷ size ∷ []
 
-starred :
-    map answer
-    (ample "" 64 ∷
-    ample "native A;" 64 ∷
-    ample "const long A = 1 << 8 + 4;" 64 ∷
-    ample "const long A = - -1;" 64 ∷
-    ample "typedef sequence<sequence<long>> T;" 64 ∷
-    ample "struct A { };" 64 ∷
-    ample "exception A { };" 64 ∷
-    ample "enum E { A, };" 64 ∷
-    ample "interface A : B;" 64 ∷
-    ample "interface Factory { };" 64 ∷
-    ample "interface _factory { };" 64 ∷
-    ample "const long A = ((1));" 1 ∷
-    ample "const long A = ((1));" 2 ∷
-    record { text = "const long A = 1 << 8 + 4;"; setting = 64; token-room = 10; tree-room = 8 } ∷
-    record { text = "const long A = 1 << 8 + 4;"; setting = 64; token-room = 9; tree-room = 9 } ∷ [])
-    ≡ (refused 7 0 0 0 ∷
-    record { said = reply 0 9 3 4; tree = node 51 1 2 1 ∷ node 42 0 2 2 ∷ node 2 0 3 3 ∷ node 1 0 3 4 ∷ [] } ∷
-    record {
-      said = reply 0 26 10 9;
-      tree =
-          node 57 1 2 1 ∷ node 39 4 5 1 ∷ node 39 6 7 1 ∷ node 39 8 9 1 ∷ node 34 6 9 3 ∷ node 33 4 9 5 ∷ node 27 0 9 7 ∷
-          node 2 0 10 8 ∷ node 1 0 10 9 ∷ [];
-    } ∷
-    refused 7 17 8 0 ∷
-    refused 7 30 9 0 ∷
-    refused 7 11 5 0 ∷
-    record { said = reply 0 16 5 3; tree = node 86 0 4 1 ∷ node 2 0 5 2 ∷ node 1 0 5 3 ∷ [] } ∷
-    refused 7 12 7 0 ∷
-    refused 7 15 5 0 ∷
-    refused 5 10 0 0 ∷
-    record { said = reply 0 23 5 5; tree = node 7 0 2 1 ∷ node 8 3 3 1 ∷ node 5 0 4 3 ∷ node 2 0 5 4 ∷ node 1 0 5 5 ∷ [] } ∷
-    refused 8 16 10 0 ∷
-    record {
-      said = reply 0 21 10 7;
-      tree =
-          node 57 1 2 1 ∷ node 39 6 7 1 ∷ node 38 5 8 2 ∷ node 38 4 9 3 ∷ node 27 0 9 5 ∷ node 2 0 10 6 ∷ node 1 0 10 7 ∷ [];
-    } ∷
-    refused 9 26 10 9 ∷
-    refused 6 26 10 0 ∷ [])
-unfolding answer table idl-prediction idl
-starred = refl
+-- "Depth 64 and ample tables unless said."
+abbrev ample : ℕ
+ample = 64
+
+unfoldable pub starred : List Row
+starred =
+    row "" 64 ample ample (reply 7 0 0 0) [] ∷
+    row "native A;" 64 ample ample (reply 0 9 3 4) (node 51 1 2 1 ∷ node 42 0 2 2 ∷ node 2 0 3 3 ∷ node 1 0 3 4 ∷ []) ∷
+    row "const long A = 1 << 8 + 4;" 64 ample ample (reply 0 26 10 9)
+    (node 57 1 2 1 ∷ node 39 4 5 1 ∷ node 39 6 7 1 ∷ node 39 8 9 1 ∷ node 34 6 9 3 ∷ node 33 4 9 5 ∷ node 27 0 9 7 ∷ node 2 0 10 8 ∷
+    node 1 0 10 9 ∷ []) ∷
+    row "const long A = - -1;" 64 ample ample (reply 7 17 8 0) [] ∷
+    row "typedef sequence<sequence<long>> T;" 64 ample ample (reply 7 30 9 0) [] ∷
+    row "struct A { };" 64 ample ample (reply 7 11 5 0) [] ∷
+    row "exception A { };" 64 ample ample (reply 0 16 5 3) (node 86 0 4 1 ∷ node 2 0 5 2 ∷ node 1 0 5 3 ∷ []) ∷
+    row "enum E { A, };" 64 ample ample (reply 7 12 7 0) [] ∷
+    row "interface A : B;" 64 ample ample (reply 7 15 5 0) [] ∷
+    row "interface Factory { };" 64 ample ample (reply 5 10 0 0) [] ∷
+    row "interface _factory { };" 64 ample ample (reply 0 23 5 5)
+    (node 7 0 2 1 ∷ node 8 3 3 1 ∷ node 5 0 4 3 ∷ node 2 0 5 4 ∷ node 1 0 5 5 ∷ []) ∷
+    row "const long A = ((1));" 1 ample ample (reply 8 16 10 0) [] ∷
+    row "const long A = ((1));" 2 ample ample (reply 0 21 10 7)
+    (node 57 1 2 1 ∷ node 39 6 7 1 ∷ node 38 5 8 2 ∷ node 38 4 9 3 ∷ node 27 0 9 5 ∷ node 2 0 10 6 ∷ node 1 0 10 7 ∷ []) ∷
+    -- "With 8 tree records it is reply 9, counts 10 and 9; with 9 tokens of room, reply 6, count 10."
+    row "const long A = 1 << 8 + 4;" 64 ample 8 (reply 9 26 10 9) [] ∷
+    row "const long A = 1 << 8 + 4;" 64 9 ample (reply 6 26 10 0) [] ∷ []
