@@ -2,33 +2,31 @@
 //!
 //! Usage: check FILE...
 
-use idl::Reply;
-use std::process::ExitCode;
-use std::{env, fs};
+mod common;
 
-fn main() -> ExitCode {
+use idl::Reply;
+use std::env;
+use std::io::{self, Write};
+use std::path::PathBuf;
+use std::process::ExitCode;
+
+fn main() -> io::Result<ExitCode> {
     let mut all_accepted = true;
-    for file in env::args().skip(1) {
-        let wrong = match fs::read(&file) {
+    for file in env::args_os().skip(1).map(PathBuf::from) {
+        let wrong = match common::file_bytes(&file) {
             Ok(text) => what_is_wrong(&text),
             Err(error) => Some((0, error.to_string())),
         };
         if let Some((place, message)) = wrong {
-            println!("{file}:{place}: {message}");
+            writeln!(io::stdout(), "{}:{place}: {message}", file.display())?;
             all_accepted = false;
         }
     }
-    if all_accepted {
-        ExitCode::SUCCESS
-    } else {
-        ExitCode::FAILURE
-    }
+    Ok(if all_accepted { ExitCode::SUCCESS } else { ExitCode::FAILURE })
 }
 
 fn what_is_wrong(text: &[u8]) -> Option<(usize, String)> {
-    // A token takes a byte at least, and a tree has at most two records a token.
-    let mut tokens = vec![0; 3 * text.len()];
-    let mut tree = vec![0; 4 * 2 * text.len()];
+    let (mut tokens, mut tree) = common::tables(text);
     match idl::read(text, &mut tokens, &mut tree, idl::DEPTH_CEILING) {
         Reply::Accepted { .. } => None,
         Reply::Grammar { place, .. } if place == text.len() => Some((place, "the text ends too early".to_string())),

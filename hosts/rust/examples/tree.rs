@@ -2,59 +2,73 @@
 //!
 //! Usage: tree FILE
 
-use idl::Reply;
-use std::process::ExitCode;
-use std::{env, fs};
+mod common;
 
-fn main() -> ExitCode {
-    let file = env::args().nth(1).unwrap_or_default();
-    let text = match fs::read(&file) {
+use idl::Reply;
+use std::env;
+use std::io::{self, Write};
+use std::path::PathBuf;
+use std::process::ExitCode;
+
+fn main() -> io::Result<ExitCode> {
+    let file = PathBuf::from(env::args_os().nth(1).unwrap_or_default());
+    let text = match common::file_bytes(&file) {
         Ok(text) => text,
         Err(error) => {
-            eprintln!("{file}: {error}\nusage: tree FILE");
-            return ExitCode::from(2);
+            eprintln!("{}: {error}\nusage: tree FILE", file.display());
+            return Ok(ExitCode::from(2));
         }
     };
-    // A token takes a byte at least, and a tree has at most two records a token.
-    let mut tokens = vec![0; 3 * text.len()];
-    let mut tree = vec![0; 4 * 2 * text.len()];
+    let (mut tokens, mut tree) = common::tables(&text);
     match idl::read(&text, &mut tokens, &mut tree, idl::DEPTH_CEILING) {
         Reply::Accepted { tokens: count, records } => {
-            print_tokens(&text, &tokens, count);
-            print_tree(&text, &tokens, &tree, records);
-            ExitCode::SUCCESS
+            print_tokens(&text, &tokens, count)?;
+            print_tree(&text, &tokens, &tree, records)?;
+            Ok(ExitCode::SUCCESS)
         }
         refusal => {
-            eprintln!("{file}: {refusal}");
-            ExitCode::FAILURE
+            eprintln!("{}: {refusal}", file.display());
+            Ok(ExitCode::FAILURE)
         }
     }
 }
 
-fn print_tokens(text: &[u8], tokens: &[u32], count: usize) {
+fn print_tokens(text: &[u8], tokens: &[u32], count: usize) -> io::Result<()> {
+    let mut out = io::stdout().lock();
     for (number, token) in idl::tokens(tokens, count).enumerate() {
         let name = idl::kind_name(token.kind).unwrap_or("?");
         let spelling = idl::spelling(text, tokens, number).escape_ascii().to_string();
         let class = if name == spelling { "" } else { name };
-        println!("{}", format!("{number}, byte {}: {spelling} {class}", token.first).trim_end());
+        writeln!(out, "{}", format!("{number}, byte {}: {spelling} {class}", token.first).trim_end())?;
     }
+    Ok(())
 }
 
-fn print_tree(text: &[u8], tokens: &[u32], tree: &[u32], count: usize) {
+/// A line is indented by at most so many levels, and shows at most so many tokens and so many bytes of each: a tree can
+/// be as deep as its text is long.
+const LEVELS_SHOWN: usize = 80;
+const TOKENS_SHOWN: usize = 6;
+const BYTES_SHOWN: usize = 40;
+
+fn print_tree(text: &[u8], tokens: &[u32], tree: &[u32], count: usize) -> io::Result<()> {
+    let mut out = io::stdout().lock();
     for (level, record) in idl::outline(tree, count) {
-        let indent = "  ".repeat(level);
+        let indent = "  ".repeat(level.min(LEVELS_SHOWN));
         let name = idl::rule_name(record.rule).unwrap_or("?");
-        println!("{indent}{name}: {}", beginning(text, tokens, record));
+        writeln!(out, "{indent}{name}: {}", beginning(text, tokens, record))?;
     }
+    Ok(())
 }
 
 /// The first few tokens of a record.
 fn beginning(text: &[u8], tokens: &[u32], record: idl::Record) -> String {
-    const SHOWN: usize = 6;
-    let shown = record.first..record.end.min(record.first + SHOWN);
-    let mut words: Vec<String> =
-        shown.map(|token| idl::spelling(text, tokens, token).escape_ascii().to_string()).collect();
-    if record.end > record.first + SHOWN {
+    let word = |token| {
+        let spelling = idl::spelling(text, tokens, token);
+        spelling.get(..BYTES_SHOWN).unwrap_or(spelling).escape_ascii().to_string()
+    };
+    let span = record.first..record.end;
+    let mut words: Vec<String> = span.clone().take(TOKENS_SHOWN).map(word).collect();
+    if span.len() > TOKENS_SHOWN {
         words.push("...".to_string());
     }
     words.join(" ")

@@ -6,6 +6,8 @@
 //! unchanged. A refusal sets every number of the lent tables to zero, but for [`Reply::BadCall`], which changes
 //! nothing. The reader takes no memory besides.
 //!
+//! Every function here ends and none panics, whatever table, count or text it is given.
+//!
 //! The features say what the linked library has: its token part, its tree part, its whole reader.
 #![cfg_attr(
     feature = "tree",
@@ -18,7 +20,7 @@ let reply = idl::read(text, &mut tokens, &mut tree, 64);
 assert_eq!(reply, idl::Reply::Accepted { tokens: 3, records: 4 });
 
 for (level, record) in idl::outline(&tree, 4) {
-    println!("{:level$}{}", "", idl::rule_name(record.rule).unwrap());
+    println!("{level} {}", idl::rule_name(record.rule).unwrap_or("?"));
 }
 ```
 "#
@@ -30,7 +32,7 @@ mod table;
 
 #[cfg(feature = "tokens")]
 pub use raw::spelling;
-pub use raw::{DEPTH_CEILING, TEXT_CEILING};
+pub use raw::{DEPTH_CEILING, TEXT_CEILING, TOKEN_NUMBERS, TREE_NUMBERS};
 pub use reply::Reply;
 pub use table::{kind_name, outline, records, rule_name, tokens, Record, Token};
 

@@ -46,6 +46,10 @@ mod entries {
 pub const TEXT_CEILING: usize = 1_048_576;
 /// The largest depth setting; the smallest is 1.
 pub const DEPTH_CEILING: u32 = 64;
+/// The numbers of a token record.
+pub const TOKEN_NUMBERS: usize = 3;
+/// The numbers of a tree record.
+pub const TREE_NUMBERS: usize = 4;
 
 /// A reply as four numbers; [`crate::Reply`] names its cases.
 #[repr(C)]
@@ -69,10 +73,8 @@ pub fn read_tokens(text: &[u8], tokens: &mut [u32]) -> Reply {
 pub fn spelling<'a>(text: &'a [u8], tokens: &[u32], record: usize) -> &'a [u8] {
     // SAFETY: each pointer is good for its length.
     let span = unsafe { entries::idl_spelling(text.as_ptr(), text.len(), tokens.as_ptr(), tokens.len(), record) };
-    match span.length {
-        0 => &[],
-        length => &text[span.first as usize..][..length as usize],
-    }
+    let rest = text.get(span.first as usize..).unwrap_or_default();
+    rest.get(..span.length as usize).unwrap_or_default()
 }
 
 /// Makes the tree from the first `token_count` records of a token table.

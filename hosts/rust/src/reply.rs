@@ -26,6 +26,8 @@ pub enum Reply {
     TooDeep { place: usize, tokens: usize },
     /// The tree table has too little room for this many records.
     TreeTableFull { tokens: usize, records: usize },
+    /// A number that has no name here, as another library than the one beside this wrapper could give.
+    Unknown(raw::Reply),
 }
 
 impl Reply {
@@ -45,7 +47,7 @@ impl Reply {
         match *self {
             NoLexeme { place } | Open { place } | BadLiteral { place } | KeywordCase { place } => Some(place),
             Grammar { place, .. } | TooDeep { place, .. } => Some(place),
-            Accepted { .. } | BadCall | TokenTableFull { .. } | TreeTableFull { .. } => None,
+            Accepted { .. } | BadCall | TokenTableFull { .. } | TreeTableFull { .. } | Unknown(_) => None,
         }
     }
 }
@@ -66,7 +68,7 @@ impl From<raw::Reply> for Reply {
             7 => Reply::Grammar { place, tokens },
             8 => Reply::TooDeep { place, tokens },
             9 => Reply::TreeTableFull { tokens, records },
-            number => unreachable!("no reply has number {number}"),
+            _ => Reply::Unknown(reply),
         }
     }
 }
@@ -86,6 +88,7 @@ impl fmt::Display for Reply {
             Reply::TreeTableFull { records, .. } => {
                 write!(formatter, "the tree table has no room for {records} records")
             }
+            Reply::Unknown(reply) => write!(formatter, "the reply has the unknown number {}", reply.number),
         }
     }
 }

@@ -1,5 +1,8 @@
 //! The records of filled tables, and what their numbers are called.
 
+use crate::raw::{TOKEN_NUMBERS, TREE_NUMBERS};
+use std::iter;
+
 /// A token: its kind, its first byte and its length in bytes.
 #[derive(Clone, Copy, Debug, PartialEq, Eq)]
 pub struct Token {
@@ -26,7 +29,7 @@ pub struct Record {
 /// ```
 pub fn tokens(table: &[u32], count: usize) -> impl Iterator<Item = Token> + '_ {
     let token = |numbers: &[u32]| Token { kind: numbers[0], first: numbers[1] as usize, length: numbers[2] as usize };
-    table.chunks_exact(3).take(count).map(token)
+    table.chunks_exact(TOKEN_NUMBERS).take(count).map(token)
 }
 
 /// The first `count` records of a tree table, children before their parent.
@@ -43,10 +46,13 @@ pub fn records(table: &[u32], count: usize) -> impl Iterator<Item = Record> + '_
         end: numbers[2] as usize,
         size: numbers[3] as usize,
     };
-    table.chunks_exact(4).take(count).map(record)
+    table.chunks_exact(TREE_NUMBERS).take(count).map(record)
 }
 
 /// The first `count` records of a tree table from the root down, each with the number of records above it.
+///
+/// Each of them comes once, whatever numbers the table holds: a size of 0 is read as 1, and one that reaches past the
+/// start of the record above, or of the table, as reaching up to that start.
 ///
 /// ```
 /// let table = [51, 1, 2, 1, 42, 0, 2, 2, 2, 0, 3, 3, 1, 0, 3, 4];
@@ -56,24 +62,23 @@ pub fn records(table: &[u32], count: usize) -> impl Iterator<Item = Record> + '_
 pub fn outline(table: &[u32], count: usize) -> Vec<(usize, Record)> {
     let records: Vec<Record> = records(table, count).collect();
     let mut outline = Vec::with_capacity(records.len());
-    let mut waiting = Vec::new();
-    let mut roots = records.len();
-    while roots > 0 {
-        waiting.push((0, roots - 1));
-        roots -= records[roots - 1].size;
-    }
-    while let Some((level, place)) = waiting.pop() {
-        let record = records[place];
-        outline.push((level, record));
-        // The last child stands directly before its parent, each other child before the subtree of the next.
-        let start = place + 1 - record.size;
-        let mut end = place;
-        while end > start {
-            waiting.push((level + 1, end - 1));
-            end -= records[end - 1].size;
-        }
+    let mut waiting: Vec<_> = subtrees(&records).map(|subtree| (0, subtree)).collect();
+    while let Some((level, (root, below))) = waiting.pop() {
+        outline.push((level, *root));
+        waiting.extend(subtrees(below).map(|subtree| (level + 1, subtree)));
     }
     outline
+}
+
+/// The subtrees that stand side by side in these records, the last one first: its root, and the records below that.
+fn subtrees(mut records: &[Record]) -> impl Iterator<Item = (&Record, &[Record])> {
+    iter::from_fn(move || {
+        let (root, before) = records.split_last()?;
+        let size = root.size.clamp(1, records.len());
+        let (left, below) = before.split_at(records.len() - size);
+        records = left;
+        Some((root, below))
+    })
 }
 
 const CLASSES: [&str; 8] = [
