@@ -1,10 +1,9 @@
 -- "Depth at a token is the number of ( { [ < before it not yet closed."
--- Assumes nothing: definitions.
+-- Assumes nothing: these are definitions.
 use Prim.Native.Nat.{ℕ, zero, suc, _≤_, _<_, pred}
 use mathlib.Core.Path.{_≡_}
 use mathlib.Core.Bool.{Bool, true, false}
 use mathlib.Core.List.{[], _∷_}
-use native.Mathlib.Omega.{arith}
 use lib.Dec.{T}
 use Rattle.kinds.specs.Kinds.{kind-of}
 use Rattle.grammar.specs.Sets.{elem}
@@ -38,17 +37,3 @@ pub record TooDeep (s : ℕ → ℕ) (n q : ℕ) : Type 0 where
   pub opens : T (opening (s q))
   pub full : depth s q ≡ n
   pub before : Within s n 0 q
-
-pred-below : (n m : ℕ) → n ≤ m → pred n ≤ suc m
-pred-below n m h = omega arith
-
--- depth never exceeds the number of tokens before
-pub depth-bounded : (s : ℕ → ℕ) (q : ℕ) → depth s q ≤ q
-unfolding depth level
-depth-bounded s zero = omega arith
-depth-bounded s (suc q) = go (opening (s q)) (closing (s q)) (depth-bounded s q)
-  where
-    go : (a b : Bool) → depth s q ≤ q → level a b (depth s q) ≤ suc q
-    go true b h = omega arith
-    go false true h = pred-below (depth s q) q h
-    go false false h = omega arith

@@ -4,10 +4,7 @@ pub mod Rule
 pub mod Notation
 pub mod Idl
 pub mod Derivation
-pub mod Leaves
 pub mod Record
 pub mod Depth
 pub mod Blame
 pub mod Meaning
-pub mod Nesting
-pub mod Facts

@@ -1,15 +1,12 @@
 -- Tree records of a derivation: four numbers for each use of a rule that is recorded, children before their parent.
--- Assumes nothing: definitions, with the law on forests side by side.
-use Prim.Native.Nat.{ℕ, suc, _+_, _≤_}
-use mathlib.Core.Path.{_≡_, ap, sym, _∙_}
-use mathlib.Core.Bool.{Bool, true, false, not, _||_, cond}
-use mathlib.Core.List.{List, [], _∷_, _++_, append-assoc, append-nil}
-use native.Mathlib.Nat.{add-assoc}
-use native.Mathlib.Omega.{arith}
+-- Assumes nothing: these are definitions.
+use Prim.Native.Nat.{ℕ, suc, _+_}
+use mathlib.Core.Bool.{Bool, not, _||_, cond}
+use mathlib.Core.List.{List, [], _∷_, _++_}
 use lib.Dec.{eqb}
-use lib.ListN.{length, length-append}
+use lib.ListN.{length}
 use Rattle.grammar.specs.Sets.{elem}
-use Rattle.grammar.specs.Forest.{Forest, end, leaf, node, join, width, nodes, width-join}
+use Rattle.grammar.specs.Forest.{Forest, end, leaf, node, width}
 use Rattle.grammar.specs.Rule.{Edition}
 
 -- "rule number of 000, first token, one past the last token, records in its subtree with itself"
@@ -43,36 +40,3 @@ records E i end = []
 records E i (leaf f k) = records E i f
 records E i (node f r c) =
     records E i f ++ with-parent E r (i + width f) (i + width f + width c) (shape c) (records E (i + width f) c)
-
-pub records-join : (E : Edition) (i : ℕ) (f g : Forest) →
-    records E i (join f g) ≡ records E i f ++ records E (i + width f) g
-unfolding records join
-records-join E i f end = sym (append-nil (records E i f))
-records-join E i f (leaf g k) = records-join E i f g
-records-join E i f (node g r c) =
-    let e : i + width (join f g) ≡ i + width f + width g =
-    ap (λ (x : ℕ). i + x) (width-join f g) ∙ sym (add-assoc i (width f) (width g)) in
-    rw (records-join E i f g, e, append-assoc)
-
-one-more : (xs : List TreeRecord) (b : Bool) (x : TreeRecord) → length (xs ++ cond b (x ∷ []) []) ≤ suc (length xs)
-one-more xs true x = let e = length-append xs (x ∷ []) in omega arith
-one-more xs false x = let e = length-append xs [] in omega arith
-
-parent-one : (E : Edition) (r first past n : ℕ) (xs : List TreeRecord) →
-    length (with-parent E r first past n xs) ≤ suc (length xs)
-unfolding with-parent
-parent-one E r first past n xs = one-more xs (recorded E r n) _
-
--- no more records than nodes
-pub records-nodes : (E : Edition) (i : ℕ) (f : Forest) → length (records E i f) ≤ nodes f
-unfolding records nodes
-records-nodes E i end = omega arith
-records-nodes E i (leaf f k) = records-nodes E i f
-records-nodes E i (node f r c) =
-    let n = i + width f in
-    let own = with-parent E r n (n + width c) (shape c) (records E n c) in
-    let a = records-nodes E i f in
-    let b = records-nodes E n c in
-    let h = parent-one E r n (n + width c) (shape c) (records E n c) in
-    let e = length-append (records E i f) own in
-    omega arith

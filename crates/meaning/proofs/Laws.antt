@@ -1,16 +1,19 @@
--- What holds of replies and of tree records, said once for those who prove the calls.
--- A fault's row has a number from 2 to 5; a tree record has four numbers. By the cases of the definitions.
+-- What holds of replies, tree records and room, said once for those who prove the calls: a fault's row has a number from 2 to 5, a tree
+-- record has four numbers, and what has room is judged and accepted. By the cases of the definitions.
 use Prim.Native.Nat.{ℕ, _≤_}
-use mathlib.Core.Path.{refl}
+use mathlib.Core.Path.{_≡_, refl}
 use mathlib.Core.Bool.{Bool, true, false, cond}
 use mathlib.Core.List.{List, [], _∷_, map}
 use native.Mathlib.Omega.{arith}
+use borrow.Author.Tests.{le-ltb}
 use lib.Dec.{eqb}
+use lib.ListN.{length}
 use Rattle.grammar.specs.Record.{TreeRecord, tree-record}
 use Rattle.replies.specs.declared.Reply.{Reply}
 use Rattle.replies.specs.Replies as rows
 use Rattle.tables.specs.Tables.{Records, none, more, node-width}
 use Rattle.meaning.specs.Sense.{numbers}
+use Rattle.meaning.specs.Verdict.{Verdict, accepted, fitted, TextVerdict, judgement, tokens-fitted}
 
 pub fault-range : (number place : ℕ) → (2 ≤ rows.fault number place .number) × (rows.fault number place .number ≤ 5)
 fault-range number place = go (eqb number 2) (eqb number 3) (eqb number 4)
@@ -27,3 +30,10 @@ fault-range number place = go (eqb number 2) (eqb number 3) (eqb number 4)
 pub four-wide : (rs : List TreeRecord) → Records node-width (map numbers rs)
 four-wide [] = none
 four-wide (tree-record a b c d ∷ rs) = more refl (four-wide rs)
+
+-- with room the tokens are judged, and the records accepted
+pub room-judged : (room : ℕ) (ts : List (List ℕ)) (v : Verdict) → length ts ≤ room → tokens-fitted room ts v ≡ judgement ts v
+room-judged room ts v h = simp (le-ltb room (length ts) h)
+
+pub room-accepted : (room : ℕ) (rs : List (List ℕ)) → length rs ≤ room → fitted room rs ≡ accepted rs
+room-accepted room rs h = simp (le-ltb room (length rs) h)

@@ -1,3 +1,4 @@
+pub mod Laws
 pub mod Deep
 pub mod SecondCall
-pub mod Laws
+pub mod Refusals

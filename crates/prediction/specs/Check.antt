@@ -7,7 +7,7 @@ use mathlib.Core.List.{List, [], _∷_}
 use native.Mathlib.Omega.{arith}
 use lib.Dec.{T, eqb, leb, T-not, eqb→eq, leb→le}
 use lib.ListN.{length}
-use Rattle.grammar.specs.Nesting.{nests}
+use Rattle.grammar.proofs.Nesting.{nests}
 use Rattle.grammar.specs.Rule.{Edition, right-side}
 use Rattle.grammar.specs.Sets.{elem, and-left, and-right}
 use Rattle.prediction.specs.Sets.{only, subset, disjoint}

@@ -7,7 +7,8 @@ use mathlib.Core.Bool.{Bool, true, false, _&&_, _||_, cond}
 use mathlib.Core.List.{List, [], _∷_, _++_}
 use native.Mathlib.Decide.{ℕ-discrete}
 use lib.Dec.{T}
-use Rattle.grammar.specs.Forest.{Forest, end, join-end}
+use Rattle.grammar.specs.Forest.{Forest, end}
+use Rattle.grammar.proofs.Forest.{join-end}
 use Rattle.grammar.specs.Sets.{elem, and-left, and-right, or-cases}
 use Rattle.prediction.specs.Plan.{Plan, token, group, call, wrap, seq, alt, skip, many, Plan-discrete}
 use Rattle.prediction.specs.Plan.{PlanDerives, plan-token, plan-group, plan-call, plan-wrap, plan-seq}

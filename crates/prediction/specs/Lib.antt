@@ -4,11 +4,7 @@ pub mod Typing
 pub mod Look
 pub mod Compare
 pub mod Run
-pub mod Deterministic
-pub mod Maximal
 pub mod Word
-pub mod Viable
-pub mod Choice
 pub mod RunDepth
 pub mod Inside
 pub mod Paths
@@ -21,9 +17,3 @@ pub mod Check
 pub mod Planning
 pub mod PlanNotation
 pub mod IdlPlans
-pub mod IdlChecked
-pub mod SamePlans
-pub mod Verdict
-pub mod Bound
-pub mod Theorems
-pub mod Transport

@@ -1,7 +1,7 @@
 -- Demand 1 of anything that answers as promised: reply 1 exactly for a bad call, and every later refusal zeroes the lent tables throughout.
 -- By the cases of the verdict for the one meaning of the text.
 use Prim.Native.Nat.{ℕ, _≤_}
-use mathlib.Core.Path.{_≡_, refl, ap, sym, subst}
+use mathlib.Core.Path.{_≡_, refl, ap}
 use mathlib.Core.Logic.{_⊎_, inl, inr}
 use mathlib.Core.Bool.{Bool, true, false}
 use mathlib.Core.List.{List, map}
@@ -12,42 +12,12 @@ use Rattle.limits.specs.Limits.{good-call}
 use Rattle.replies.specs.declared.Reply.{Reply}
 use Rattle.tables.specs.Tables.{capacity, token-width, node-width, zeroed}
 use Rattle.meaning.specs.Sense.{kind}
-use Rattle.meaning.specs.Verdict as verdict
-use Rattle.meaning.specs.Verdict.{Verdict, TextVerdict, fault, full-tokens, judgement, text-verdict}
-use Rattle.meaning.specs.Answer.{tree-reply, tree-after, text-reply, tokens-kept, text-tokens-after, text-tree-after}
+use Rattle.meaning.specs.Verdict.{verdict}
 use Rattle.meaning.specs.Calls.{Answered, first-records, good-tree-call, TreeAnswered}
-use Rattle.meaning.proofs.Laws.{fault-range}
+use Rattle.meaning.proofs.Refusals.{Refused, tree-either, text-either}
 use Rattle.prediction.specs.Check.{Checked}
-use Rattle.verdicts.specs.OneMeaning.{some-sense}
+use Rattle.verdicts.proofs.OneMeaning.{some-sense}
 use Rattle.promises.proofs.Soundness.{found, answers-found}
-
--- the reply has a number from the least refusal to 9, and the lent tables are zeroed
-record Refused (least : ℕ) (r : Reply) (Zeroed : Type 0) : Type 0 where
-  from : least ≤ r .number
-  to : r .number ≤ 9
-  zeros : Zeroed
-
--- a verdict accepts or refuses
-tree-either : (n : ℕ) (ts : List (List ℕ)) (v : Verdict) (tree : List ℕ) →
-    (tree-reply n ts v .number ≡ 0) ⊎ Refused 7 (tree-reply n ts v) (tree-after v tree ≡ zeroed tree)
-unfolding tree-reply tree-after
-tree-either n ts (verdict.grammar q) tree = inr (record { from = omega arith; to = omega arith; zeros = refl })
-tree-either n ts (verdict.deep p) tree = inr (record { from = omega arith; to = omega arith; zeros = refl })
-tree-either n ts (verdict.full r) tree = inr (record { from = omega arith; to = omega arith; zeros = refl })
-tree-either n ts (verdict.accepted rs) tree = inl refl
-
-text-either : (n : ℕ) (v : TextVerdict) (tokens tree : List ℕ) →
-    (text-reply n v .number ≡ 0)
-    ⊎ Refused 2 (text-reply n v) ((text-tokens-after v tokens ≡ zeroed tokens) × (text-tree-after v tree ≡ zeroed tree))
-unfolding text-reply tree-reply text-tokens-after tokens-kept text-tree-after tree-after
-text-either n (fault number place) tokens tree =
-    let h = fault-range number place in
-    inr (record { from = h .0; to = omega (arith, h .1); zeros = (refl, refl) })
-text-either n (full-tokens t) tokens tree = inr (record { from = omega arith; to = omega arith; zeros = (refl, refl) })
-text-either n (judgement ts (verdict.grammar q)) tokens tree = inr (record { from = omega arith; to = omega arith; zeros = (refl, refl) })
-text-either n (judgement ts (verdict.deep p)) tokens tree = inr (record { from = omega arith; to = omega arith; zeros = (refl, refl) })
-text-either n (judgement ts (verdict.full r)) tokens tree = inr (record { from = omega arith; to = omega arith; zeros = (refl, refl) })
-text-either n (judgement ts (verdict.accepted rs)) tokens tree = inl refl
 
 -- so a call is bad and answered 1, or good and accepted or refused
 module _ (good : Bool) (least : ℕ) (r : Reply) (Zeroed : Type 0) (two : 2 ≤ least) (bad : good ≡ false → r .number ≡ 1)
@@ -94,7 +64,7 @@ module _ {E : Edition} (c : Checked E) (tokens : List ℕ) (count text : ℕ) (t
       let ts = first-records token-width count tokens in
       let s = some-sense c (map kind ts) in
       let x = a .inside g (s .0) (s .1) in
-      rw (x .0, x .1) (tree-either text ts (verdict.verdict setting (capacity node-width tree) (map kind ts) (s .0)) tree)
+      rw (x .0, x .1) (tree-either text ts (verdict setting (capacity node-width tree) (map kind ts) (s .0)) tree)
 
   pub bad-tree-call-alone : r .number ≡ 1 → good-tree-call tokens count text setting ≡ false
   bad-tree-call-alone = bad-alone _ 7 r _ (omega arith) (λ b. ap (λ (y : Reply). y .number) (a .outside b .0)) tree-part-either

@@ -7,7 +7,6 @@ use mathlib.Core.Bool.{Bool, true, false, not, cond}
 use mathlib.Core.List.{List}
 use native.Mathlib.Omega.{arith}
 use native.Mathlib.Nat.{mul-zero, mul-suc}
-use borrow.Author.Tests.{le-ltb}
 use lib.Dec.{T, ltb, ltb→lt, nltb→le}
 use lib.ListN.{length, take, length-map, length-append}
 use lib.Seq.{take-at}
@@ -22,10 +21,10 @@ use Rattle.meaning.specs.Verdict as verdict
 use Rattle.meaning.specs.Verdict.{Verdict, fitted, TextVerdict, fault, full-tokens, judgement, tokens-fitted, text-verdict}
 use Rattle.meaning.specs.Answer.{tree-reply, text-reply, tokens-kept, tree-after, text-tokens-after, text-tree-after}
 use Rattle.meaning.specs.Calls.{Answered}
-use Rattle.meaning.proofs.Laws.{fault-range}
+use Rattle.meaning.proofs.Laws.{fault-range, room-judged, room-accepted}
 use Rattle.meaning.proofs.SecondCall.{Follows, TextFollows, text-verdict-follows}
 use Rattle.prediction.specs.Check.{Checked}
-use Rattle.verdicts.specs.OneMeaning.{some-text-sense}
+use Rattle.verdicts.proofs.OneMeaning.{some-text-sense}
 use Rattle.promises.specs.Demands.{Blames, Kept, Again}
 use Rattle.promises.proofs.Places.{places-grow}
 use Rattle.promises.proofs.Soundness.{SoundTree, Sound, tree-wide, found, found-sound, answers-found}
@@ -68,13 +67,6 @@ tree-blames text ts (verdict.grammar q) h = (q, refl)
 tree-blames text ts (verdict.deep q) h = absurd (not-blamed 8 (inr (inr (inl refl))) h)
 tree-blames text ts (verdict.full r) h = absurd (not-blamed 9 (inr (inr (inr refl))) h)
 tree-blames text ts (verdict.accepted rs) h = absurd (not-blamed 0 (inl refl) h)
-
--- with room the tokens are judged, and the records accepted
-room-judged : (room : ℕ) (ts : List (List ℕ)) (w : Verdict) → length ts ≤ room → tokens-fitted room ts w ≡ judgement ts w
-room-judged room ts w h = simp (le-ltb room (length ts) h)
-
-pub room-accepted : (room : ℕ) (rs : List (List ℕ)) → length rs ≤ room → fitted room rs ≡ verdict.accepted rs
-room-accepted room rs h = simp (le-ltb room (length rs) h)
 
 -- Depth and tables nowhere smaller.
 

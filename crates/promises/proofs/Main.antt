@@ -20,9 +20,11 @@ use Rattle.meaning.specs.Sense.{Sense, Means, TextSense, TextMeans, kind, tree-
 use Rattle.meaning.specs.Verdict.{verdict}
 use Rattle.meaning.specs.Answer.{place}
 use Rattle.meaning.specs.Calls.{Answered, first-records, good-tree-call, TreeAnswered}
-use Rattle.prediction.specs.IdlChecked.{idl-checked}
-use Rattle.prediction.specs.Theorems as theorems
-use Rattle.verdicts.specs.OneMeaning.{some-text-sense, one-text-sense}
+use Rattle.prediction.proofs.IdlChecked.{idl-checked}
+use Rattle.prediction.proofs.Theorems as theorems
+use Rattle.verdicts.specs.Samples.{All, Holds, starred}
+use Rattle.verdicts.proofs.OneMeaning.{some-text-sense, one-text-sense}
+use Rattle.verdicts.proofs.Samples.{starred-hold}
 use Rattle.promises.specs.Demands.{Accepted, Blamed, Kept, Again, TreeKept}
 use Rattle.promises.proofs.Demand1 as demand-1
 use Rattle.promises.proofs.Demand2 as demand-2
@@ -54,6 +56,13 @@ some-meaning = some-text-sense idl-checked
 
 pub one-meaning : (text : List ℕ) (s s′ : TextSense) → TextMeans idl text s → TextMeans idl text s′ → s′ ≡ s
 one-meaning = one-text-sense idl-checked
+
+-- The starred sample texts: each row holds of every meaning of its text.
+
+pub starred-samples : All Holds starred
+starred-samples = starred-hold
+
+-- The whole reader.
 
 module _ (text : List ℕ) {table tree : List ℕ} {setting : ℕ} {r : Reply} {table′ tree′ : List ℕ}
     (a : Answered idl text table tree setting r table′ tree′) where

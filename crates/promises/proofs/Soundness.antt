@@ -25,7 +25,7 @@ use Rattle.meaning.specs.Calls.{Answered}
 use Rattle.meaning.proofs.Deep.{first-within}
 use Rattle.meaning.proofs.Laws.{four-wide}
 use Rattle.prediction.specs.Check.{Checked}
-use Rattle.verdicts.specs.OneMeaning.{some-text-sense}
+use Rattle.verdicts.proofs.OneMeaning.{some-text-sense}
 
 -- the records of a tree are those of a derivation of the tokens; they fit, and no mark is too deep
 pub record Tree (E : Edition) (setting room : ℕ) (tokens rs : List (List ℕ)) : Type 0 where

@@ -14,12 +14,13 @@ use Rattle.meaning.specs.Verdict as verdict
 use Rattle.meaning.specs.Verdict.{Verdict}
 use Rattle.meaning.specs.Answer.{tree-reply, tree-after}
 use Rattle.meaning.specs.Calls.{first-records, good-tree-call, TreeAnswered}
+use Rattle.meaning.proofs.Laws.{room-accepted}
 use Rattle.meaning.proofs.SecondCall.{Follows, verdict-follows}
 use Rattle.prediction.specs.Check.{Checked}
-use Rattle.verdicts.specs.OneMeaning.{some-sense}
+use Rattle.verdicts.proofs.OneMeaning.{some-sense}
 use Rattle.promises.specs.Demands.{Again, TreeKept}
 use Rattle.promises.proofs.Soundness.{SoundTree, tree-sound, tree-wide}
-use Rattle.promises.proofs.Demand3.{same-front, room-accepted, records-again}
+use Rattle.promises.proofs.Demand3.{same-front, records-again}
 
 module _ (E : Edition) (text : ℕ) (ts : List (List ℕ)) (setting room room′ : ℕ) (more-tree : room ≤ room′) (tree₁ tree₂ : List ℕ) where
   kept : (v v′ : Verdict) → SoundTree E setting room ts v → Follows room′ v v′ →

@@ -17,7 +17,7 @@ use Rattle.limits.proofs.Laws.{beyond-bad, within-good}
 use Rattle.replies.specs.declared.Reply.{Reply}
 use Rattle.replies.specs.Replies as rows
 use Rattle.tables.specs.Tables.{token-width, node-width, capacity, row, front, zeroed, Records, none, more}
-use Rattle.tables.specs.Laws.{store-front, capacity-fits, length-store}
+use Rattle.tables.proofs.Laws.{store-front, capacity-fits, length-store}
 use Rattle.text.specs.Tokens.{Tokens, tokens, fault, tokens-of}
 use Rattle.tokens.specs.Answer.{room, answer, filled, token-reply, token-table}
 use Rattle.tokens.proofs.Order.{tokens-few, tokens-records}

@@ -16,9 +16,9 @@ use Rattle.prediction.specs.Typing.{Table, first, null}
 use Rattle.prediction.specs.Run.{Outcome, blame, goes, turns, Runs, run-left, run-right, run-neither, run-seq}
 use Rattle.prediction.specs.Run.{run-seq-stop}
 use Rattle.prediction.specs.Run.{run-skip, run-last, run-more, run-more-stop}
-use Rattle.prediction.specs.Choice.{miss, run-then, run-else}
+use Rattle.prediction.proofs.Choice.{miss, run-then, run-else}
 use Rattle.prediction.specs.Check.{all-typed, null-exactly}
-use Rattle.prediction.specs.IdlChecked.{idl-checked, idl-table}
+use Rattle.prediction.proofs.IdlChecked.{idl-checked, idl-table}
 
 -- the kind is one of these; it is none of these, arm by arm, the last arm first
 pub data Known : Type 0 where

@@ -12,7 +12,7 @@ use Rattle.prediction.specs.Sets.{decide}
 use Rattle.prediction.specs.Plan.{Plan, call, token, seq, wrap}
 use Rattle.grammar.specs.Forest.{Forest}
 use Rattle.prediction.specs.Run.{Outcome, Runs, run-seq, run-seq-stop}
-use Rattle.prediction.specs.IdlChecked.{idl-table}
+use Rattle.prediction.proofs.IdlChecked.{idl-table}
 use Rattle.readers_core.specs.Reading.{kind-at, ahead, Short, view, State, Seen, Does, From, Reads, none-recorded}
 use Rattle.readers_core.proofs.Shapes.{leaves}
 use Rattle.readers_core.proofs.Sequence.{does-call, does-stays, _▸_, unrecorded}

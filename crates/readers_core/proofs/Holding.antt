@@ -7,9 +7,11 @@ use mathlib.Core.Path.{_≡_, refl, ap, sym, _∙_}
 use mathlib.Core.Bool.{Bool, true, false, cond}
 use mathlib.Core.List.{List, [], _∷_, _++_, append-nil}
 use lib.ListN.{length, length-append}
-use Rattle.grammar.specs.Forest.{Forest, end, leaf, node, join, width, width-join}
+use Rattle.grammar.specs.Forest.{Forest, end, leaf, node, join, width}
+use Rattle.grammar.proofs.Forest.{width-join}
 use Rattle.grammar.specs.Idl.{idl}
-use Rattle.grammar.specs.Record.{TreeRecord, tree-record, shape, recorded, with-parent, records, records-join}
+use Rattle.grammar.specs.Record.{TreeRecord, tree-record, shape, recorded, with-parent, records}
+use Rattle.grammar.proofs.Record.{records-join}
 use Rattle.readers_core.specs.Reading.{ceiling, counted, write, writes, Seen, Held}
 use Rattle.readers_core.proofs.Storing.{writes-append, write-past, writes-counted}
 

@@ -13,7 +13,7 @@ use Rattle.grammar.specs.Sets.{elem}
 use Rattle.prediction.specs.Plan.{Plan, token, wrap, seq, call, skip}
 use Rattle.prediction.specs.Run.{Outcome, done, blame, deep, stopped, Runs, run-token, run-miss, run-call}
 use Rattle.prediction.specs.Run.{run-call-stop, run-wrap, run-seq, run-seq-stop, run-skip}
-use Rattle.prediction.specs.IdlChecked.{idl-table}
+use Rattle.prediction.proofs.IdlChecked.{idl-table}
 use Rattle.readers_core.specs.Reading.{kind-at, ceiling, write, view, State, Seen, Held, Ends, ends-done, ends-blame}
 use Rattle.readers_core.specs.Reading.{ends-deep, Ran, Stays, Does, From, all-recorded, none-recorded}
 use Rattle.readers_core.proofs.Holding.{held-none, held-token, held-lost, held-kept, held-full, held-call}

@@ -6,7 +6,8 @@ use mathlib.Core.Bool.{Bool, true, false, not, _&&_, _||_, cond}
 use mathlib.Core.List.{List, [], _∷_, _++_}
 use mathlib.Core.Logic.{_⊎_, inl, inr, ⊎-elim}
 use lib.Dec.{T, T-not, eqb, eqb→eq, eqb-refl}
-use Rattle.grammar.specs.Forest.{Forest, end, leaf, node, join, join-end}
+use Rattle.grammar.specs.Forest.{Forest, end, leaf, node, join}
+use Rattle.grammar.proofs.Forest.{join-end}
 use Rattle.grammar.specs.Idl.{idl}
 use Rattle.grammar.specs.Record.{shape, recorded}
 use Rattle.grammar.specs.Sets.{elem}
@@ -18,7 +19,7 @@ use Rattle.prediction.specs.Run.{run-skip, run-last, run-more, run-more-stop}
 use Rattle.prediction.specs.Columns.{plan-at, round, every, every-at}
 use Rattle.prediction.specs.Check.{table}
 use Rattle.prediction.specs.IdlPlans.{idl-prediction}
-use Rattle.prediction.specs.IdlChecked.{idl-table}
+use Rattle.prediction.proofs.IdlChecked.{idl-table}
 use Rattle.readers_core.specs.Reading.{all-recorded, none-recorded}
 
 -- the shape of two forests side by side

@@ -12,7 +12,7 @@ use Rattle.grammar.specs.Record.{TreeRecord, tree-record, shape, recorded, reco
 use Rattle.grammar.specs.Sets.{elem}
 use Rattle.prediction.specs.Plan.{Plan, call, wrap}
 use Rattle.prediction.specs.Run.{Outcome, done, blame, deep, Runs}
-use Rattle.prediction.specs.IdlChecked.{idl-table}
+use Rattle.prediction.proofs.IdlChecked.{idl-table}
 use Rattle.tables.specs.Tables.{token-width, node-width, put}
 
 -- the kind of token i of a token table, 0 past its end

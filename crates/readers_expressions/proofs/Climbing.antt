@@ -10,7 +10,7 @@ use Rattle.grammar.specs.Record.{shape}
 use Rattle.grammar.specs.Sets.{elem}
 use Rattle.prediction.specs.Plan.{token, call, wrap}
 use Rattle.prediction.specs.Run.{Outcome, Runs, run-wrap}
-use Rattle.prediction.specs.IdlChecked.{idl-table}
+use Rattle.prediction.proofs.IdlChecked.{idl-table}
 use Rattle.readers_core.specs.Reading.{kind-at, ahead, view, State, seen, Ends, ends-done, From, nothing, several, Reads}
 use Rattle.readers_core.specs.Reading.{Takes, Closes, none-recorded}
 use Rattle.readers_core.proofs.Choosing.{Knows, among, except, any-elem, elem-any}

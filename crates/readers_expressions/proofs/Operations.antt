@@ -13,11 +13,11 @@ use Rattle.prediction.specs.Sets.{decide, and-left, and-right, or-left, or-case
 use Rattle.prediction.specs.Plan.{Plan, token, call, wrap, seq, alt, many}
 use Rattle.prediction.specs.Typing.{null, first}
 use Rattle.prediction.specs.Run.{Outcome, Runs}
-use Rattle.prediction.specs.Choice.{run-then, run-else}
+use Rattle.prediction.proofs.Choice.{run-then, run-else}
 use Rattle.prediction.specs.Columns.{plan-at, round}
 use Rattle.prediction.specs.Check.{all-typed, null-exactly, table}
 use Rattle.prediction.specs.IdlPlans.{idl-prediction}
-use Rattle.prediction.specs.IdlChecked.{idl-checked, idl-table}
+use Rattle.prediction.proofs.IdlChecked.{idl-checked, idl-table}
 use Rattle.readers_core.specs.Reading.{kind-at, ahead, view, State, From, several, all-recorded, none-recorded}
 use Rattle.readers_core.proofs.Choosing.{among, except, is-over, row}
 use Rattle.readers_core.proofs.Frames.{ahead-kind}

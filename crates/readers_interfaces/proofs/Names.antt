@@ -8,7 +8,7 @@ use Rattle.prediction.specs.Plan.{Plan, call}
 use Rattle.prediction.specs.Columns.{plan-at, round}
 use Rattle.prediction.specs.Check.{table}
 use Rattle.prediction.specs.IdlPlans.{idl-prediction}
-use Rattle.prediction.specs.IdlChecked.{idl-table}
+use Rattle.prediction.proofs.IdlChecked.{idl-table}
 use Rattle.readers_core.specs.Reading.{Reads, none-recorded}
 use Rattle.readers_core.proofs.Choosing.{Knows, except, choose}
 use Rattle.readers_core.proofs.Frames.{passed-on}

@@ -5,7 +5,7 @@ use mathlib.Core.Path.{_≡_}
 use mathlib.Core.List.{List, [], _∷_}
 use lib.Dec.{T}
 use Rattle.prediction.specs.Plan.{Plan, token, group, call, wrap, seq, alt, skip, many}
-use Rattle.prediction.specs.IdlChecked.{idl-table}
+use Rattle.prediction.proofs.IdlChecked.{idl-table}
 use Rattle.readers_core.specs.Reading.{State, Flat, none-recorded}
 
 -- rule n is a scoped name alone: (11) interface_name, (20) value_name

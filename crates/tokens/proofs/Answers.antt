@@ -11,7 +11,7 @@ use Rattle.limits.specs.Limits.{text-ceiling, good-text}
 use Rattle.replies.specs.declared.Reply.{Reply}
 use Rattle.replies.specs.Replies as rows
 use Rattle.tables.specs.Tables.{token-width, capacity, store, zeroed}
-use Rattle.tables.specs.Laws.{store-front, capacity-fits}
+use Rattle.tables.proofs.Laws.{store-front, capacity-fits}
 use Rattle.text.specs.Tokens.{Tokens, tokens, tokens-of}
 use Rattle.tokens.specs.Answer.{Scanned, all-tokens, first-fault, answer, filled, token-reply, token-table}
 use Rattle.tokens.specs.declared.Found.the-variants as found

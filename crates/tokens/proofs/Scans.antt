@@ -9,7 +9,7 @@ use native.Mathlib.Omega.{arith}
 use lib.ListN.{length, drop, length-append, length-drop}
 use lib.Seq.{drop-drop, drop-length}
 use Rattle.tables.specs.Tables.{token-width, put, store}
-use Rattle.tables.specs.Laws.{store-more, length-store}
+use Rattle.tables.proofs.Laws.{store-more, length-store}
 use Rattle.text.specs.Bytes.{run, space, at as byte}
 use Rattle.text.specs.Lexemes.{lexeme}
 use Rattle.text.specs.Tokens.{Tokens, tokens, fault, token, before, then, tokens-in, tokens-of}

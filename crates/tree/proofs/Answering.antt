@@ -19,7 +19,7 @@ use Rattle.prediction.specs.Plan.{call}
 use Rattle.replies.specs.declared.Reply.{Reply}
 use Rattle.replies.specs.Replies.{outside-limits}
 use Rattle.tables.specs.Tables.{capacity, token-width}
-use Rattle.tables.specs.Laws.{capacity-fits}
+use Rattle.tables.proofs.Laws.{capacity-fits}
 use Rattle.meaning.specs.Calls.{good-tree-call, TreeAnswered}
 use Rattle.readers_core.specs.Reading.{view, Reads}
 use Rattle.tree.specs.Conclusion.{concluded, kept-tree}

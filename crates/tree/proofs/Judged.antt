@@ -14,20 +14,20 @@ use Rattle.grammar.specs.Forest.{Forest, end}
 use Rattle.grammar.specs.Idl.{idl}
 use Rattle.grammar.specs.Record.{TreeRecord, tree-record, records, shape}
 use Rattle.grammar.specs.Sets.{elem}
-use Rattle.prediction.specs.IdlChecked.{idl-checked, idl-table}
+use Rattle.prediction.proofs.IdlChecked.{idl-checked, idl-table}
 use Rattle.prediction.specs.Plan.{call}
 use Rattle.prediction.specs.Run.{Outcome, deep, Runs}
-use Rattle.prediction.specs.Theorems.{records-bounded}
-use Rattle.prediction.specs.Verdict.{Says, says-derived, says-more, says-blamed, says-deep, says}
+use Rattle.prediction.proofs.Theorems.{records-bounded}
+use Rattle.prediction.proofs.Verdict.{Says, says-derived, says-more, says-blamed, says-deep, says}
 use Rattle.tables.specs.Tables.{capacity, store, zeroed, Records, token-width, node-width}
-use Rattle.tables.specs.Laws.{store-front, capacity-fits}
+use Rattle.tables.proofs.Laws.{store-front, capacity-fits}
 use Rattle.meaning.specs.Sense.{Sense, Means, kind, numbers, tree-records}
 use Rattle.meaning.proofs.Laws.{four-wide}
 use Rattle.meaning.specs.Verdict as verdict
 use Rattle.meaning.specs.Verdict.{Verdict, verdict}
 use Rattle.meaning.specs.Answer.{tree-reply, tree-after}
 use Rattle.meaning.specs.Calls.{first-records}
-use Rattle.verdicts.specs.Outcomes.{of-outcome, outcome-verdict}
+use Rattle.verdicts.proofs.Outcomes.{of-outcome, outcome-verdict}
 use Rattle.readers_core.specs.Reading.{Reading, view, ceiling, write, writes, nothing, Held, Ends, ends-done, ends-blame}
 use Rattle.readers_core.specs.Reading.{ends-deep, Reads}
 use Rattle.readers_core.proofs.Holding.{held-none}

@@ -1,1 +1,3 @@
+pub mod OneMeaning
+pub mod Outcomes
 pub mod Samples

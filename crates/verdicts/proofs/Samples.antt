@@ -1,7 +1,7 @@
 -- Every starred row of paper 01's sample table holds.
 -- One computed test: the table with its answers computed anew is the table. What is computed is the verdict of every meaning of a text.
 use Prim.Native.Nat.{ℕ}
-use mathlib.Core.Path.{_≡_, refl}
+use mathlib.Core.Path.{_≡_, refl, ap}
 use mathlib.Core.Bool.{cond}
 use mathlib.Core.List.{List, [], _∷_, map}
 use lib.Dec.{ltb}
@@ -15,10 +15,10 @@ use Rattle.meaning.specs.Verdict.{TextVerdict, fault, full-tokens, judgement, t
 use Rattle.meaning.specs.Answer.{text-reply}
 use Rattle.prediction.specs.Check.{table}
 use Rattle.prediction.specs.IdlPlans.{idl-prediction}
-use Rattle.prediction.specs.IdlChecked.{idl-checked}
-use Rattle.prediction.specs.Theorems.{parse}
-use Rattle.prediction.specs.Verdict.{says}
-use Rattle.verdicts.specs.Outcomes.{of-outcome, outcome-verdict}
+use Rattle.prediction.proofs.IdlChecked.{idl-checked}
+use Rattle.prediction.proofs.Theorems.{parse}
+use Rattle.prediction.proofs.Verdict.{says}
+use Rattle.verdicts.proofs.Outcomes.{of-outcome, outcome-verdict}
 use Rattle.verdicts.specs.Samples.{Row, row, tree-of, Holds, All, none, more, starred}
 
 module _ (setting token-room tree-room : ℕ) where
@@ -43,14 +43,18 @@ module _ (setting token-room tree-room : ℕ) where
 -- a row with its answer computed anew
 unfoldable recomputed : Row → Row
 unfolding bytes computed tokens-of text-reply tree-of
-recomputed (row text setting token-room tree-room said tree) =
-    let v = computed setting token-room tree-room (tokens-of (bytes text)) in
-    row text setting token-room tree-room (text-reply (length (bytes text)) v) (tree-of v)
+recomputed r =
+    let v = computed (r .setting) (r .token-room) (r .tree-room) (tokens-of (bytes (r .text))) in
+    row (r .text) (r .setting) (r .token-room) (r .tree-room) (text-reply (length (bytes (r .text))) v) (tree-of v)
 
 computed-holds : (r : Row) → recomputed r ≡ r → Holds r
 unfolding recomputed Holds
-computed-holds (row text setting token-room tree-room said tree) e =
-    λ s m. let c = computed-right setting token-room tree-room m in (cc, cc)
+computed-holds r e =
+    λ s m.
+    let c = computed-right (r .setting) (r .token-room) (r .tree-room) m in
+    let said = ap (λ (x : Row). x .said) e in
+    let tree = ap (λ (x : Row). x .tree) e in
+    (cc, cc)
 
 all-hold : (rs : List Row) → map recomputed rs ≡ rs → All Holds rs
 all-hold [] e = none

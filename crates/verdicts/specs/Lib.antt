@@ -1,3 +1,1 @@
-pub mod OneMeaning
-pub mod Outcomes
 pub mod Samples

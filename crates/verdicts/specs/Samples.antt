@@ -15,8 +15,17 @@ use Rattle.meaning.specs.Answer.{text-reply}
 
 -- a text, its depth setting, the records that its token table and its tree table hold;
 -- the reply with its number, place and both counts, and the tree records where the text is accepted
-pub data Row : Type 0 where
-  row : (text : String) (setting token-room tree-room : ℕ) (said : Reply) (tree : List (List ℕ)) → Row
+pub record Row : Type 0 where
+  pub text : String
+  pub setting : ℕ
+  pub token-room : ℕ
+  pub tree-room : ℕ
+  pub said : Reply
+  pub tree : List (List ℕ)
+
+abbrev pub row : (text : String) (setting token-room tree-room : ℕ) (said : Reply) (tree : List (List ℕ)) → Row
+row text setting token-room tree-room said tree =
+    record { text = text; setting = setting; token-room = token-room; tree-room = tree-room; said = said; tree = tree }
 
 -- the tree records that a verdict accepts
 unfoldable pub tree-of : TextVerdict → List (List ℕ)
@@ -29,9 +38,10 @@ tree-of (judgement ts (accepted rs)) = rs
 
 -- a row holds: for every meaning of its text the verdict gives this reply and these tree records
 unfoldable pub Holds : Row → Type 0
-Holds (row text setting token-room tree-room said tree) =
-    (s : TextSense) → TextMeans idl (bytes text) s →
-    let v = text-verdict setting token-room tree-room s in (text-reply (length (bytes text)) v ≡ said) × (tree-of v ≡ tree)
+Holds r =
+    (s : TextSense) → TextMeans idl (bytes (r .text)) s →
+    let v = text-verdict (r .setting) (r .token-room) (r .tree-room) s in
+    (text-reply (length (bytes (r .text))) v ≡ r .said) × (tree-of v ≡ r .tree)
 
 -- every row of a table is so
 pub data All (P : Row → Type 0) : List Row → Type 0 where

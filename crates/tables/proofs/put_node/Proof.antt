@@ -5,7 +5,7 @@ use mathlib.Core.Path.{_≡_}
 use native.Mathlib.Omega.{arith}
 use borrow.Author.Needs.{needs}
 use lib.ListN.{length-set}
-use Rattle.tables.specs.Laws.{put-fits, put-full}
+use Rattle.tables.proofs.Laws.{put-fits, put-full}
 use Rattle.tables.proofs.put_node.Statement.{statement}
 use Rattle.tables.proofs.put_node.Tie as tie
 

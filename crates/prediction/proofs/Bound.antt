@@ -6,14 +6,15 @@ use native.Mathlib.Omega.{arith}
 use lib.ListN.{length}
 use Rattle.grammar.specs.Derivation.{kind-at, Derivation}
 use Rattle.grammar.specs.Forest.{Forest, nodes}
-use Rattle.grammar.specs.Record.{records, records-nodes}
+use Rattle.grammar.specs.Record.{records}
+use Rattle.grammar.proofs.Record.{records-nodes}
 use Rattle.grammar.specs.Rule.{Edition}
 use Rattle.prediction.specs.Plan.{call}
 use Rattle.prediction.specs.RulesAsPlans.{as-plan}
 use Rattle.prediction.specs.Weight.{weight, weighed, weighs}
 use Rattle.prediction.specs.Columns.{caps}
 use Rattle.prediction.specs.Check.{rounds, Checked, plans-of, table-of, all-weighed, all-capped, start-capped}
-use Rattle.prediction.specs.SamePlans.{to-plans}
+use Rattle.prediction.proofs.SamePlans.{to-plans}
 
 module _ {E : Edition} (c : Checked E) where
   nodes-bounded : (ks : List ℕ) (g : Forest) → Derivation E ks g → nodes g ≤ 32 * length ks

@@ -17,7 +17,7 @@ use Rattle.grammar.specs.Idl.{published, idl}
 use Rattle.grammar.specs.Derivation.{kind-at}
 use Rattle.grammar.specs.Record.{tree-record, recorded, records}
 use Rattle.grammar.specs.Depth.{depth}
-use Rattle.grammar.specs.Nesting.{nests}
+use Rattle.grammar.proofs.Nesting.{nests}
 
 -- each name is that of a token or a rule, and each terminal has a kind
 unfoldable pub spelled : Written → Bool

@@ -12,14 +12,15 @@ use Rattle.grammar.specs.Forest.{Forest}
 use Rattle.grammar.specs.Rule.{Edition}
 use Rattle.grammar.specs.Derivation.{kind-at}
 use Rattle.grammar.specs.Blame.{Begins, Blame}
+use Rattle.grammar.proofs.Blame.{shorter}
 use Rattle.meaning.specs.Deep.{first-too-deep}
 use Rattle.meaning.proofs.Deep.{first-is, first-relation, first-after}
 use Rattle.meaning.specs.Sense.{Sense, Means, means-blame, means-tree, tree-records}
 use Rattle.meaning.specs.Verdict.{Verdict, grammar, deep, full, accepted, judged, verdict}
 use Rattle.prediction.specs.Check.{Checked}
 use Rattle.prediction.specs.Run as run
-use Rattle.prediction.specs.Theorems.{unique, never-both, blamed-once}
-use Rattle.prediction.specs.Verdict.{Says, says-derived, says-more, says-blamed, says-deep}
+use Rattle.prediction.proofs.Theorems.{unique, never-both, blamed-once}
+use Rattle.prediction.proofs.Verdict.{Says, says-derived, says-more, says-blamed, says-deep}
 
 -- the verdict that an outcome on t tokens stands for
 unfoldable pub of-outcome : Edition → (tokens room : ℕ) → run.Outcome → Verdict
@@ -29,15 +30,6 @@ of-outcome E t room (run.done j g) =
     (cond (ltb room (length (tree-records E g))) (full (length (tree-records E g))) (accepted (tree-records E g))) (grammar j)
 of-outcome E t room (run.blame q) = grammar q
 of-outcome E t room (run.deep q) = deep q
-
-shorter : {E : Edition} {ks : List ℕ} (m n : ℕ) → m ≤ n → Begins E ks n → Begins E ks m
-shorter m n h b = record {
-  whole = b .whole;
-  forest = b .forest;
-  derives = b .derives;
-  long = omega (arith, b .long);
-  starts = λ k l. b .starts k (omega arith);
-}
 
 -- what is viable through token q is blamed behind it
 behind : {E : Edition} {ks : List ℕ} {p q : ℕ} → p < length ks → Begins E ks (suc p) → Blame E ks q → p < q

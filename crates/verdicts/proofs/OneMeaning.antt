@@ -12,7 +12,7 @@ use Rattle.text.specs.Tokens as text
 use Rattle.meaning.specs.Sense as sense
 use Rattle.meaning.specs.Sense.{Sense, Means, means-blame, means-tree, TextSense, TextMeans, means-fault, means-tokens, kind, tree-records}
 use Rattle.prediction.specs.Check.{Checked}
-use Rattle.prediction.specs.Theorems.{meaning, unique, never-both, blamed-once}
+use Rattle.prediction.proofs.Theorems.{meaning, unique, never-both, blamed-once}
 
 module _ {E : Edition} (c : Checked E) where
   -- a list of tokens has a meaning

@@ -12,20 +12,20 @@ use Rattle.grammar.specs.Blame.{Begins, Blame}
 use Rattle.grammar.specs.Depth.{depth, Within, TooDeep}
 use Rattle.grammar.specs.Derivation.{kind-at, Derives, Derivation}
 use Rattle.grammar.specs.Forest.{Forest, end}
-use Rattle.grammar.specs.Nesting.{open-inside}
+use Rattle.grammar.proofs.Nesting.{open-inside}
 use Rattle.grammar.specs.Rule.{nonterminal, Edition}
 use Rattle.grammar.specs.Sets.{elem}
 use Rattle.prediction.specs.Sets.{decide}
 use Rattle.prediction.specs.Plan.{call, PlanDerives}
 use Rattle.prediction.specs.Typing.{follow-last, typed}
 use Rattle.prediction.specs.Run.{Outcome, done, blame, deep, stop, Runs, sound}
-use Rattle.prediction.specs.Maximal.{Maximal, most-same, most-early, most-blame, Agree, maximal}
-use Rattle.prediction.specs.Viable.{carry, Viable, reach, stays-viable}
+use Rattle.prediction.proofs.Maximal.{Maximal, most-same, most-early, most-blame, Agree, maximal}
+use Rattle.prediction.proofs.Viable.{carry, Viable, reach, stays-viable}
 use Rattle.prediction.specs.RunDepth.{marked, StopDepth, depth-done, depth-blame, depth-deep, stop-depth}
 use Rattle.prediction.specs.Inside.{zero-past, inside-run}
 use Rattle.prediction.specs.RulesAsPlans.{as-plan}
 use Rattle.prediction.specs.Check.{Checked, table-of, all-typed, all-marked, all-generate, ends-at-zero}
-use Rattle.prediction.specs.SamePlans.{to-plans, from-plans}
+use Rattle.prediction.proofs.SamePlans.{to-plans, from-plans}
 
 -- the first n of the kinds s, as a list
 list-of : (ℕ → ℕ) → ℕ → List ℕ

@@ -5,13 +5,15 @@ use mathlib.Core.Path.{_≡_}
 use mathlib.Core.List.{List}
 use native.Mathlib.Omega.{arith}
 use lib.ListN.{length}
-use Rattle.grammar.specs.Blame.{Blame, one-blame}
-use Rattle.grammar.specs.Depth.{depth, Within, depth-bounded}
+use Rattle.grammar.specs.Blame.{Blame}
+use Rattle.grammar.specs.Depth.{depth, Within}
+use Rattle.grammar.proofs.Blame.{one-blame}
+use Rattle.grammar.proofs.Depth.{depth-bounded}
 use Rattle.grammar.specs.Derivation.{kind-at, Derivation}
 use Rattle.grammar.specs.Forest.{Forest, end, leaves}
-use Rattle.grammar.specs.Leaves.{leaves-are-tokens}
+use Rattle.grammar.proofs.Leaves.{leaves-are-tokens}
 use Rattle.grammar.specs.Meaning.{Meaning, derived, blamed}
-use Rattle.grammar.specs.Nesting.{nesting, marks-closed, depth-bounds-nesting}
+use Rattle.grammar.proofs.Nesting.{nesting, marks-closed, depth-bounds-nesting}
 use Rattle.grammar.specs.Record.{records}
 use Rattle.grammar.specs.Rule.{Edition}
 use Rattle.prediction.specs.Plan.{call}
@@ -22,9 +24,9 @@ use Rattle.prediction.specs.Inside.{zero-past}
 use Rattle.prediction.specs.RulesAsPlans.{as-plan}
 use Rattle.prediction.specs.Parser.{Result, total}
 use Rattle.prediction.specs.Check.{rounds, Checked, table-of, all-typed, all-founded}
-use Rattle.prediction.specs.SamePlans.{to-plans}
-use Rattle.prediction.specs.Verdict.{Says, says-derived, says-more, says-blamed, says-deep, says}
-use Rattle.prediction.specs.Bound.{bounded}
+use Rattle.prediction.proofs.SamePlans.{to-plans}
+use Rattle.prediction.proofs.Verdict.{Says, says-derived, says-more, says-blamed, says-deep, says}
+use Rattle.prediction.proofs.Bound.{bounded}
 
 module _ {E : Edition} (c : Checked E) where
   -- the reader's answer to a list of kinds, at depth setting d: it computes

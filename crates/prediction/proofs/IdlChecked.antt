@@ -1,7 +1,7 @@
 -- Edition 1 passes its test: its plans derive what its rules derive, and each choice is made by one token.
 -- Computed.
 use lib.Dec.{T}
-use Rattle.grammar.specs.Facts.{rules-nest}
+use Rattle.grammar.proofs.Facts.{rules-nest}
 use Rattle.grammar.specs.Idl.{idl}
 use Rattle.prediction.specs.Typing.{Table}
 use Rattle.prediction.specs.Check.{passes, Checked, table-of}

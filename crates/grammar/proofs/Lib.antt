@@ -1,0 +1,7 @@
+pub mod Forest
+pub mod Record
+pub mod Blame
+pub mod Depth
+pub mod Leaves
+pub mod Nesting
+pub mod Facts

@@ -1,0 +1,10 @@
+pub mod Deterministic
+pub mod Maximal
+pub mod Viable
+pub mod Choice
+pub mod IdlChecked
+pub mod SamePlans
+pub mod Verdict
+pub mod Bound
+pub mod Theorems
+pub mod Transport

@@ -1,0 +1,118 @@
+-- Paper 01, "Try these stand-ins": readers that the words of the demands shut out. Each is shown from a promise alone, so that one that
+-- is weakened is noticed here. The accepted texts are starred samples; their trees differ in the first number.
+use Prim.Native.Nat.{ℕ, suc, _≤_}
+use Prim.Native.String.{String}
+use mathlib.Core.Path.{_≡_, refl, ap, sym, _∙_}
+use mathlib.Core.Bool.{Bool, true, false, cond}
+use mathlib.Core.Logic.{inr}
+use mathlib.Core.List.{List, _∷_, map}
+use native.Mathlib.Omega.{arith}
+use lib.Dec.{ltb}
+use lib.ListN.{length, getD}
+use Rattle.kinds.specs.Kinds.{bytes}
+use Rattle.grammar.specs.Derivation.{kind-at}
+use Rattle.grammar.specs.Idl.{idl}
+use Rattle.replies.specs.declared.Reply.{Reply}
+use Rattle.tables.specs.Tables.{capacity, row, front, token-width, node-width}
+use Rattle.meaning.specs.Deep.{first-too-deep}
+use Rattle.meaning.specs.Sense as sense
+use Rattle.meaning.specs.Sense.{means-tree, means-tokens, kind, tree-records}
+use Rattle.meaning.specs.Verdict as verdict
+use Rattle.meaning.specs.Verdict.{full-tokens, judgement, text-verdict}
+use Rattle.meaning.specs.Answer.{tree-reply, text-reply}
+use Rattle.meaning.specs.Calls.{Answered}
+use Rattle.verdicts.specs.Samples.{Row, tree-of, Holds, All, more, starred}
+use Rattle.verdicts.proofs.Samples.{starred-hold}
+use Rattle.promises.specs.Demands.{Accepted, Blames, Kept, Again}
+use Rattle.promises.proofs.Main.{some-meaning}
+
+-- Demand 2.
+
+module _ (setting token-room tree-room : ℕ) (ts rs : List (List ℕ)) where
+  -- a verdict that accepts derived records accepts all of them
+  derived-tree : (n : ℕ) → let v = text-verdict setting token-room tree-room (sense.read ts (sense.derived rs)) in
+      text-reply n v .number ≡ 0 → tree-of v ≡ rs
+  unfolding text-verdict verdict.verdict verdict.judged text-reply tree-reply tree-of
+  derived-tree n = go (ltb token-room (length ts)) (ltb p (length ks)) (ltb tree-room (length rs))
+    where
+      ks : List ℕ
+      ks = map kind ts
+
+      p : ℕ
+      p = first-too-deep setting (kind-at ks) (length ks)
+
+      go : (x y z : Bool) →
+          let v = cond x (full-tokens (length ts)) (judgement ts (cond y (verdict.deep p) (cond z (verdict.full (length rs)) (verdict.accepted rs)))) in
+          text-reply n v .number ≡ 0 → tree-of v ≡ rs
+      go true y z e = absurd (omega arith)
+      go false true z e = absurd (omega arith)
+      go false false true e = absurd (omega arith)
+      go false false false e = refl
+
+-- an accepted sample leaves its own tree at the front of the tree table
+sample-tree : (s : Row) → Holds s → s .said .number ≡ 0 → {table tree : List ℕ} {setting : ℕ} {r : Reply} {table′ tree′ : List ℕ} →
+    Accepted idl (bytes (s .text)) table tree setting r table′ tree′ → tree′ ≡ front node-width (s .tree) tree
+unfolding Holds
+sample-tree s h z {tree = tree} x =
+    let f = tree-records idl (x .forest) in
+    let e = h (sense.read (x .list) (sense.derived f)) (means-tokens (x .splits) (means-tree (x .forest) (x .derives))) in
+    let n = length (bytes (s .text)) in
+    let d = derived-tree (s .setting) (s .token-room) (s .tree-room) (x .list) f n (ap (λ (y : Reply). y .number) (e .0) ∙ z) in
+    x .tree-written ∙ ap (λ (l : List (List ℕ)). front node-width l tree) (sym d ∙ e .1)
+
+-- the second and the seventh of the starred rows
+second : {P : Row → Type 0} {a b : Row} {rs : List Row} → All P (a ∷ b ∷ rs) → P b
+second (more p (more q l)) = q
+
+seventh : {P : Row → Type 0} {a b c d e f g : Row} {rs : List Row} → All P (a ∷ b ∷ c ∷ d ∷ e ∷ f ∷ g ∷ rs) → P g
+seventh (more p (more q (more r (more s (more t (more u (more v l))))))) = v
+
+module _ {table tree : List ℕ} {setting : ℕ} {r : Reply} {table′ tree′ : List ℕ}
+    (a : Accepted idl (bytes "native A;") table tree setting r table′ tree′) where
+  -- "that writes no records": the tree table does not stay as it was
+  pub no-records : (getD tree 0 0 ≡ 51 → ⊥) → tree′ ≡ tree → ⊥
+  unfolding starred row
+  no-records n e =
+      n (ap (λ (l : List ℕ). getD l 0 0) (sym e ∙ sample-tree _ (second starred-hold) refl a))
+
+  -- "one tree for all": another text leaves another tree in the same table
+  pub one-tree : {table₂ : List ℕ} {setting₂ : ℕ} {r₂ : Reply} {table₂′ tree₂′ : List ℕ} →
+      Accepted idl (bytes "exception A { };") table₂ tree setting₂ r₂ table₂′ tree₂′ → tree′ ≡ tree₂′ → ⊥
+  unfolding starred row
+  one-tree b e =
+      let z : _≡_ {A = ℕ} 51 86 =
+      ap (λ (l : List ℕ). getD l 0 0) (sym (sample-tree _ (second starred-hold) refl a) ∙ e ∙ sample-tree _ (seventh starred-hold) refl b) in
+      omega arith
+
+-- "one that refuses everything": `native A;` is accepted with the sample table's room
+pub refuses-everything : {table tree : List ℕ} {r : Reply} {table′ tree′ : List ℕ} →
+    Answered idl (bytes "native A;") table tree 64 r table′ tree′ → capacity token-width table ≡ 64 → capacity node-width tree ≡ 64 →
+    r .number ≡ 0
+unfolding starred Holds bytes
+refuses-everything {table} {tree} a c k =
+    let s = some-meaning (bytes "native A;") in
+    let x = rw (c, k) at (a .inside refl (s .0) (s .1) .0) in
+    ap (λ (y : Reply). y .number) (x ∙ second starred-hold (s .0) (s .1) .0)
+
+-- Demand 3.
+
+-- "one that counts falsely": with the count named the table is not full, and with one less it is
+pub count-enough : {count : ℕ} {r r′ : Reply} → Again count count r r′ → r′ .number ≡ r .number → ⊥
+count-enough a e = omega (arith, a .only-below e)
+
+pub count-needed : {n : ℕ} {r r′ : Reply} → Again (suc n) n r r′ → r′ ≡ r
+count-needed a = a .below (omega arith)
+
+module _ {r r′ : Reply} {tokens tokens′ tree tree′ : List ℕ} (k : Kept r r′ tokens tokens′ tree tree′) where
+  -- one whose acceptance counts otherwise in a larger call, or whose blame moves or gives way to another
+  pub counts-stay : r .number ≡ 0 → (r′ .tokens ≡ r .tokens) × (r′ .records ≡ r .records)
+  counts-stay z = let e = k .acceptance z .0 in (ap (λ (x : Reply). x .tokens) e, ap (λ (x : Reply). x .records) e)
+
+  pub blame-stays : r .number ≡ 7 → (r′ .number ≡ 7) × (r′ .place ≡ r .place)
+  unfolding Blames
+  blame-stays z = let e = k .blame (inr z) in (ap (λ (x : Reply). x .number) e ∙ z, ap (λ (x : Reply). x .place) e)
+
+  -- one that blames the very mark that it refused for its depth, or a place before it
+  pub mark-blamed : r .number ≡ 8 → r′ .number ≡ 7 → r′ .place ≤ r .place → ⊥
+  unfolding Blames
+  mark-blamed z y h = omega (arith, k .depth z (inr y))
