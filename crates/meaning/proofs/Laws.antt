@@ -1,5 +1,5 @@
--- What holds of replies, tree records and room, said once for those who prove the calls: a fault's row has a number from 2 to 5, a tree
--- record has four numbers, and what has room is judged and accepted. By the cases of the definitions.
+-- Laws for those who prove the calls: a fault's row has a number from 2 to 5, a tree record has four numbers, what has room is judged and
+-- accepted, and a place of blame is given where no mark before it is too deep. By the cases of the definitions.
 use Prim.Native.Nat.{ℕ, _≤_}
 use mathlib.Core.Path.{_≡_, refl}
 use mathlib.Core.Bool.{Bool, true, false, cond}
@@ -12,8 +12,8 @@ use Rattle.grammar.specs.Record.{TreeRecord, tree-record}
 use Rattle.replies.specs.declared.Reply.{Reply}
 use Rattle.replies.specs.Replies as rows
 use Rattle.tables.specs.Tables.{Records, none, more, node-width}
-use Rattle.meaning.specs.Sense.{numbers}
-use Rattle.meaning.specs.Verdict.{Verdict, accepted, fitted, TextVerdict, judgement, tokens-fitted}
+use Rattle.meaning.specs.Sense.{blamed, derived, numbers}
+use Rattle.meaning.specs.Verdict.{Verdict, grammar, accepted, fitted, judged, TextVerdict, judgement, tokens-fitted}
 
 pub fault-range : (number place : ℕ) → (2 ≤ rows.fault number place .number) × (rows.fault number place .number ≤ 5)
 fault-range number place = go (eqb number 2) (eqb number 3) (eqb number 4)
@@ -37,3 +37,12 @@ room-judged room ts v h = simp (le-ltb room (length ts) h)
 
 pub room-accepted : (room : ℕ) (rs : List (List ℕ)) → length rs ≤ room → fitted room rs ≡ accepted rs
 room-accepted room rs h = simp (le-ltb room (length rs) h)
+
+-- "7 winning at the same token": with no mark before it too deep, a place of blame is given; with none at all, the records are
+pub blame-given : (p t room q : ℕ) → q ≤ p → judged p t room (blamed q) ≡ grammar q
+unfolding judged
+blame-given p t room q h = simp (le-ltb p q h)
+
+pub records-given : (p t room : ℕ) (rs : List (List ℕ)) → t ≤ p → judged p t room (derived rs) ≡ fitted room rs
+unfolding judged
+records-given p t room rs h = simp (le-ltb p t h)

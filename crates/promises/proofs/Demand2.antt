@@ -5,8 +5,7 @@ use mathlib.Core.Path.{_≡_, refl, ap, sym, subst, _∙_}
 use mathlib.Core.Bool.{true}
 use mathlib.Core.List.{List, map}
 use native.Mathlib.Omega.{arith}
-use borrow.Author.Tests.{le-ltb}
-use lib.ListN.{length, length-map}
+use lib.ListN.{length}
 use Rattle.grammar.specs.Blame.{Blame}
 use Rattle.grammar.specs.Depth.{Within}
 use Rattle.grammar.specs.Derivation.{kind-at, Derivation}
@@ -25,7 +24,7 @@ use Rattle.meaning.specs.Verdict as verdict
 use Rattle.meaning.specs.Verdict.{Verdict, TextVerdict, fault, full-tokens, judgement, text-verdict}
 use Rattle.meaning.specs.Answer.{place, tree-reply, text-reply, tokens-kept, tree-after, text-tokens-after, text-tree-after}
 use Rattle.meaning.specs.Calls.{Answered}
-use Rattle.meaning.proofs.Laws.{fault-range}
+use Rattle.meaning.proofs.Laws.{fault-range, room-judged, room-accepted, blame-given, records-given}
 use Rattle.prediction.specs.Check.{Checked}
 use Rattle.promises.specs.Demands.{Accepted, Blamed}
 use Rattle.promises.proofs.Soundness.{SoundTree, Sound, found, found-sound, answers-found}
@@ -85,29 +84,27 @@ module _ {E : Edition} (c : Checked E) (text : List ℕ) {table tree : List ℕ}
       rw x (blame-says E text table tree setting _ (found-sound c text setting table tree) (sym (ap (λ (y : Reply). y .number) x) ∙ z))
 
   module _ (ts : List (List ℕ)) (e : tokens-of text ≡ tokens ts) (room : length ts ≤ capacity token-width table) where
+    abbrev ks : List ℕ
+    ks = map kind ts
+
+    abbrev deep : ℕ
+    deep = first-too-deep setting (kind-at ks) (length ks)
+
     -- what is derived is accepted, with room and depth enough
-    pub accepted-always : (f : Forest) → Derivation E (map kind ts) f → length (tree-records E f) ≤ capacity node-width tree →
-        Within (kind-at (map kind ts)) setting 0 (length (map kind ts)) → r .number ≡ 0
-    unfolding text-verdict verdict.verdict verdict.judged text-reply tree-reply
+    pub accepted-always : (f : Forest) → Derivation E ks f → length (tree-records E f) ≤ capacity node-width tree →
+        Within (kind-at ks) setting 0 (length ks) → r .number ≡ 0
+    unfolding text-verdict verdict.verdict text-reply tree-reply
     accepted-always f d h w =
-        let x = a .inside g (sense.read ts (sense.derived (tree-records E f))) (means-tokens e (means-tree f d)) .0 in
-        let deep = first-after setting (kind-at (map kind ts)) {t = length (map kind ts)} (omega arith) w in
-        ap (λ (y : Reply). y .number) x
-        ∙ simp (
-          le-ltb (capacity token-width table) (length ts) room,
-          le-ltb (first-too-deep setting (kind-at (map kind ts)) (length (map kind ts))) (length (map kind ts)) deep,
-          le-ltb (capacity node-width tree) (length (tree-records E f)) h,
-        )
+        let rs = tree-records E f in
+        let x = a .inside g (sense.read ts (sense.derived rs)) (means-tokens e (means-tree f d)) .0 in
+        let given = records-given deep (length ks) (capacity node-width tree) rs (first-after setting (kind-at ks) {t = length ks} (omega arith) w) in
+        let verdict-is = room-judged (capacity token-width table) ts _ room ∙ ap (judgement ts) (given ∙ room-accepted (capacity node-width tree) rs h) in
+        ap (λ (y : Reply). y .number) (x ∙ ap (text-reply (length text)) verdict-is)
 
     -- what has a place of blame is blamed there, with room and with depth enough for what stands before it
-    pub blamed-always : (q : ℕ) → Blame E (map kind ts) q → Within (kind-at (map kind ts)) setting 0 q →
-        r ≡ rows.grammar (place (length text) ts q) (length ts)
-    unfolding text-verdict verdict.verdict verdict.judged text-reply tree-reply
+    pub blamed-always : (q : ℕ) → Blame E ks q → Within (kind-at ks) setting 0 q → r ≡ rows.grammar (place (length text) ts q) (length ts)
+    unfolding text-verdict verdict.verdict text-reply tree-reply
     blamed-always q b w =
         let x = a .inside g (sense.read ts (sense.blamed q)) (means-tokens e (means-blame b)) .0 in
-        let deep = first-after setting (kind-at (map kind ts)) {t = length (map kind ts)} (b .within) w in
-        x
-        ∙ simp (
-          le-ltb (capacity token-width table) (length ts) room,
-          le-ltb (first-too-deep setting (kind-at (map kind ts)) (length (map kind ts))) q deep,
-        )
+        let given = blame-given deep (length ks) (capacity node-width tree) q (first-after setting (kind-at ks) {t = length ks} (b .within) w) in
+        x ∙ ap (text-reply (length text)) (room-judged (capacity token-width table) ts _ room ∙ ap (judgement ts) given)

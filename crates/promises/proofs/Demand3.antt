@@ -118,7 +118,7 @@ module _ (text tokens₁ tokens₂ tree₁ tree₂ : List ℕ) where
     blame = λ b. absurd (not-blamed 8 (inr (inr (inl refl))) b);
     depth = λ z b.
         let x = tree-blames (length text) ts w (subst (λ (y : TextVerdict). Blames (text-reply (length text) y .number)) e b) in
-        rw (e ∙ ap (judgement ts) (x .1)) (places-grow text ts t p (x .0) (f (x .0) (x .1)) (inside (x .0) (x .1)));
+        rw (e ∙ ap (judgement ts) (x .1)) (omega (arith, places-grow text ts t p (x .0) (f (x .0) (x .1)) (inside (x .0) (x .1))));
   }
 
   module _ (E : Edition) (setting setting′ : ℕ)
