@@ -125,6 +125,6 @@ fn place_of_blame_before_a_list() {
 #[test]
 fn empty_value_leaves_no_record_of_inheritance() {
     assert_accepted("valuetype V { };", 5, 4);
-    let rules: Vec<u32> = outcome(b"valuetype V { };", 64).records().iter().map(|record| record[0]).collect();
-    assert_eq!(rules, [18, 17, 2, 1]);
+    let records = outcome(b"valuetype V { };", 64).records();
+    assert_eq!(records, [[18, 0, 2, 1], [17, 0, 4, 2], [2, 0, 5, 3], [1, 0, 5, 4]]);
 }
