@@ -1,3 +1,4 @@
+pub mod Sets
 pub mod Forest
 pub mod Record
 pub mod Blame

@@ -9,7 +9,8 @@ use native.Mathlib.Nat.{add-zero, zero-add, add-suc, suc-add}
 use native.Mathlib.Omega.{arith}
 use lib.Dec.{T, eqb, ltb, ltb→lt, nltb→le, eqb→eq, eqb-refl}
 use lib.ListN.{getD, length, List·getD-eq-default}
-use Rattle.grammar.specs.Sets.{elem, and-left, and-right, or-cases}
+use Rattle.grammar.specs.Sets.{elem}
+use Rattle.grammar.proofs.Sets.{and-left, and-right, or-cases}
 use Rattle.grammar.specs.Forest.{Forest, end, leaf, node}
 use Rattle.grammar.specs.Rule.{RightSide, terminal, nonterminal, sequence, choice, nothing, repeat, Edition}
 use Rattle.grammar.specs.Rule.{right-side}

@@ -17,7 +17,7 @@ use Rattle.meaning.specs.Answer.{tree-reply, tree-after, text-reply, tex
 
 -- the whole reader on a text, two lent tables and a depth setting
 pub record Answered (E : Edition) (text tokens tree : List ℕ) (setting : ℕ) (reply : Reply) (tokens′ tree′ : List ℕ) : Type 0 where
-  -- "Reply 1 leaves both tables untouched"
+  -- "Reply 1 leaves both tables .. untouched"
   pub outside : good-call (length text) setting ≡ false →
       (reply ≡ outside-limits) × ((tokens′ ≡ tokens) × (tree′ ≡ tree))
   -- a good call, by the one meaning of its text

@@ -7,7 +7,8 @@ use mathlib.Core.Bool.{not, _&&_, _||_}
 use native.Mathlib.Omega.{arith}
 use lib.Dec.{T, T-not, not-T}
 use Rattle.grammar.specs.Forest.{Forest}
-use Rattle.grammar.specs.Sets.{elem, and-left, and-right, or-cases}
+use Rattle.grammar.specs.Sets.{elem}
+use Rattle.grammar.proofs.Sets.{and-left, and-right, or-cases}
 use Rattle.prediction.specs.Sets.{or-left, or-right, decide, only, elem-left, elem-right, elem-only, elem-eq}
 use Rattle.prediction.specs.Sets.{and-both}
 use Rattle.prediction.specs.Plan.{Plan, seq, alt}

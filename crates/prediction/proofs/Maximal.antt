@@ -7,7 +7,8 @@ use mathlib.Core.Bool.{Bool, true, false, not, _&&_, _||_}
 use native.Mathlib.Omega.{arith}
 use lib.Dec.{T, T-not}
 use Rattle.grammar.specs.Forest.{Forest, leaf, join}
-use Rattle.grammar.specs.Sets.{elem, and-left, and-right, or-cases}
+use Rattle.grammar.specs.Sets.{elem}
+use Rattle.grammar.proofs.Sets.{and-left, and-right, or-cases}
 use Rattle.prediction.specs.Sets.{or-left, or-right}
 use Rattle.prediction.specs.Plan.{Plan, group, call, seq, alt, many, PlanDerives, plan-token, plan-group}
 use Rattle.prediction.specs.Plan.{plan-call, plan-wrap, plan-seq, plan-left, plan-right, plan-skip, plan-none}

@@ -12,7 +12,7 @@ use lib.ListN.{getD, length, List·getD-eq-default}
 use Rattle.grammar.specs.Derivation.{Derives}
 use Rattle.grammar.specs.Forest.{Forest, end}
 use Rattle.grammar.specs.Rule.{RightSide, nothing, Edition, right-side}
-use Rattle.grammar.specs.Sets.{and-left, and-right}
+use Rattle.grammar.proofs.Sets.{and-left, and-right}
 use Rattle.prediction.specs.Sets.{decide}
 use Rattle.prediction.specs.Plan.{Plan, wrap, seq, skip, PlanDerives}
 use Rattle.prediction.specs.Equivalence.{lift, Way, opened, fits, fits-to, fits-from}

@@ -7,7 +7,8 @@ use mathlib.Core.Bool.{Bool, true, not, _&&_}
 use mathlib.Core.List.{List, [], _∷_}
 use lib.Dec.{T, eqb, eqb→eq}
 use Rattle.grammar.specs.Forest.{Forest, end}
-use Rattle.grammar.specs.Sets.{elem, and-left, and-right, or-cases}
+use Rattle.grammar.specs.Sets.{elem}
+use Rattle.grammar.proofs.Sets.{and-left, and-right, or-cases}
 use Rattle.prediction.specs.Plan.{Plan, token, group, call, wrap, seq, alt, skip, many}
 use Rattle.prediction.specs.Typing.{Table, null, first}
 use Rattle.prediction.specs.Run.{Outcome, done, goes, turns, Runs, run-token, run-miss, run-shut, run-deep}

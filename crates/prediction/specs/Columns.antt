@@ -6,7 +6,8 @@ use mathlib.Core.Bool.{Bool, true, false, not, _&&_, _||_}
 use mathlib.Core.List.{List, [], _∷_}
 use lib.Dec.{T, leb, leb→le}
 use lib.ListN.{getD}
-use Rattle.grammar.specs.Sets.{elem, and-left, and-right}
+use Rattle.grammar.specs.Sets.{elem}
+use Rattle.grammar.proofs.Sets.{and-left, and-right}
 use Rattle.prediction.specs.Sets.{subset, subset-in}
 use Rattle.prediction.specs.Plan.{Plan, wrap, seq, skip}
 use Rattle.prediction.specs.Typing.{Table, null, first, follow-last, typed}

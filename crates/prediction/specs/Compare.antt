@@ -7,7 +7,8 @@ use mathlib.Core.List.{[], _∷_, _++_}
 use native.Mathlib.Omega.{arith}
 use lib.Dec.{T, ltb, T-not}
 use Rattle.grammar.specs.Forest.{Forest, leaf, join}
-use Rattle.grammar.specs.Sets.{elem, and-left, and-right}
+use Rattle.grammar.specs.Sets.{elem}
+use Rattle.grammar.proofs.Sets.{and-left, and-right}
 use Rattle.prediction.specs.Sets.{only, disjoint, elem-left, elem-right, elem-only, elem-eq, disjoint-not}
 use Rattle.prediction.specs.Sets.{and-both}
 use Rattle.prediction.specs.Plan.{Plan, group, call, seq, alt, many, PlanDerives, plan-token, plan-group}

@@ -9,7 +9,8 @@ use native.Mathlib.Decide.{ℕ-discrete}
 use lib.Dec.{T}
 use Rattle.grammar.specs.Forest.{Forest, end}
 use Rattle.grammar.proofs.Forest.{join-end}
-use Rattle.grammar.specs.Sets.{elem, and-left, and-right, or-cases}
+use Rattle.grammar.specs.Sets.{elem}
+use Rattle.grammar.proofs.Sets.{and-left, and-right, or-cases}
 use Rattle.prediction.specs.Plan.{Plan, token, group, call, wrap, seq, alt, skip, many, Plan-discrete}
 use Rattle.prediction.specs.Plan.{PlanDerives, plan-token, plan-group, plan-call, plan-wrap, plan-seq}
 use Rattle.prediction.specs.Plan.{plan-left, plan-right, plan-skip, plan-none, plan-more}

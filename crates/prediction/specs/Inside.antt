@@ -10,7 +10,7 @@ use lib.Dec.{T, ltb, ltb→lt, nltb→le}
 use lib.ListN.{length, List·getD-eq-default}
 use Rattle.grammar.specs.Derivation.{kind-at}
 use Rattle.grammar.specs.Forest.{Forest}
-use Rattle.grammar.specs.Sets.{and-left, and-right}
+use Rattle.grammar.proofs.Sets.{and-left, and-right}
 use Rattle.prediction.specs.Sets.{decide}
 use Rattle.prediction.specs.Plan.{Plan, token, group, PlanDerives, plan-token, plan-group, plan-call, plan-wrap}
 use Rattle.prediction.specs.Plan.{plan-seq, plan-left, plan-right, plan-skip, plan-none, plan-more}

@@ -7,7 +7,8 @@ use mathlib.Core.Bool.{Bool, true, false, not, _&&_, _||_}
 use native.Mathlib.Omega.{arith}
 use lib.Dec.{T, eqb, ltb, T-not, ltb→lt, nltb→le, eqb→eq, eqb-refl}
 use Rattle.grammar.specs.Forest.{Forest, end, leaf, node, join}
-use Rattle.grammar.specs.Sets.{elem, and-left, and-right}
+use Rattle.grammar.specs.Sets.{elem}
+use Rattle.grammar.proofs.Sets.{and-left, and-right}
 use Rattle.prediction.specs.Sets.{or-right, decide, only, and-both}
 use Rattle.prediction.specs.Plan.{Plan, token, group, call, wrap, seq, alt, skip, many}
 use Rattle.prediction.specs.Typing.{Table, null, first, typed, Typed}

@@ -8,7 +8,7 @@ use native.Mathlib.Omega.{arith}
 use lib.Dec.{T, ltb, T-not, ltb→lt, nltb→le}
 use Rattle.grammar.specs.Depth.{opening, closing, level, depth, Within}
 use Rattle.grammar.specs.Forest.{Forest}
-use Rattle.grammar.specs.Sets.{and-left, and-right}
+use Rattle.grammar.proofs.Sets.{and-left, and-right}
 use Rattle.prediction.specs.Sets.{decide}
 use Rattle.prediction.specs.Plan.{Plan, token, group, call, wrap, seq, alt, skip, many, PlanDerives, plan-token}
 use Rattle.prediction.specs.Plan.{plan-group, plan-call, plan-wrap, plan-seq, plan-left, plan-right, plan-skip}

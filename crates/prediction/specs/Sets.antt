@@ -7,7 +7,7 @@ use mathlib.Core.Bool.{Bool, true, false, not, _&&_, _||_}
 use mathlib.Core.List.{List, [], _∷_, _++_}
 use lib.Dec.{T, eqb, eqb→eq, eqb-refl}
 use Rattle.grammar.specs.Sets.{elem}
-pub use Rattle.grammar.specs.Sets.{and-left, and-right, or-cases}
+pub use Rattle.grammar.proofs.Sets.{and-left, and-right, or-cases}
 
 pub or-left : (a b : Bool) → T a → T (a || b)
 or-left true b t = tt

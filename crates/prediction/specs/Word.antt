@@ -8,7 +8,7 @@ use mathlib.Core.List.{List, [], _∷_, _++_}
 use native.Mathlib.Omega.{arith}
 use lib.Dec.{T, eqb, eqb→eq, eqb-refl}
 use Rattle.grammar.specs.Forest.{Forest, end, leaf, node, join}
-use Rattle.grammar.specs.Sets.{and-left, and-right, or-cases}
+use Rattle.grammar.proofs.Sets.{and-left, and-right, or-cases}
 use Rattle.prediction.specs.Sets.{or-left, and-both}
 use Rattle.prediction.specs.Plan.{Plan, token, group, call, wrap, seq, alt, skip, many, PlanDerives, plan-token}
 use Rattle.prediction.specs.Plan.{plan-group, plan-call, plan-wrap, plan-seq, plan-left, plan-right, plan-skip}
