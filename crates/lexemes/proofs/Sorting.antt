@@ -3,9 +3,9 @@
 use mathlib.Core.Bool.{true, false}
 use mathlib.Core.List.{List}
 use mathlib.Core.Logic.{_⊎_, inl, inr}
-use mathlib.Core.Path.{_≡_}
+use mathlib.Core.Path.{_≡_, _∙_}
 use Prim.Native.Char.{code}
-use Prim.Native.Nat.{ℕ}
+use Prim.Native.Nat.{ℕ, _<_}
 use borrow.Author.Tests.{ne-eqb}
 use Rattle.kinds.specs.Kinds as kinds
 use Rattle.text.specs.Blanks.{line-comment, block-comment}
@@ -15,9 +15,11 @@ use Rattle.text.specs.Literals.{quote, literal, wide-literal}
 use Rattle.text.specs.Numbers.{number}
 use Rattle.text.specs.Words.{word, escaped-word}
 use Rattle.text.specs.declared.Lexeme.the-variants.{Blank, Token, NoLexeme}
+use Rattle.marks.specs.Starts.{starts-mark}
+use Rattle.marks.proofs.Starts.{no-other, no-mark}
 use Rattle.lexemes.specs.Fronts.{slash, wide, underscore}
 
--- a byte that a class decides: a letter, a digit, or neither
+-- a byte that a class decides: the start of a mark, a letter, a digit, or none of these
 pub record Plain (b : ℕ) : Type 0 where
   pub no-space : space b ≡ false
   pub no-slash : b ≡ slash → ⊥
@@ -91,7 +93,7 @@ module _ (bs : List ℕ) where
           f,
         )
 
-    pub other-mark : letter (at bs 0) ≡ false → digit (at bs 0) ≡ false → mark bs ≡ lexeme bs
+    other-mark : letter (at bs 0) ≡ false → digit (at bs 0) ≡ false → mark bs ≡ lexeme bs
     unfolding lexeme quote
     other-mark e f =
         simp (
@@ -105,3 +107,10 @@ module _ (bs : List ℕ) where
           e,
           f,
         )
+
+    pub start-mark : at bs 0 < 256 → starts-mark (at bs 0) ≡ true → mark bs ≡ lexeme bs
+    unfolding kinds.mark letter digit
+    start-mark h e = other-mark (no-other letter tt h e) (no-other digit tt h e)
+
+    pub no-lexeme : letter (at bs 0) ≡ false → digit (at bs 0) ≡ false → starts-mark (at bs 0) ≡ false → NoLexeme ≡ lexeme bs
+    no-lexeme e f g = no-mark bs g ∙ other-mark e f

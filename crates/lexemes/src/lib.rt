@@ -12,6 +12,7 @@ use blanks::line_comment;
 use literals::literal;
 use literals::wide_literal;
 use marks::mark;
+use marks::starts_mark;
 use numbers::number;
 use text::Class;
 use text::Lexeme;
@@ -87,13 +88,17 @@ pub fn lexeme(words: &[u8; 932], bs: &[u8]) -> Lexeme
         b'_' => underscore(bs),
         b'.' => number(bs),
         _ => {
+            // Asked first: the compiler joins this test with the `match`.
+            if starts_mark(first) {
+                return mark(bs);
+            }
             if text::is_letter(first) {
                 return word(words, bs);
             }
             if text::is_digit(first) {
                 return number(bs);
             }
-            mark(bs)
+            Lexeme::NoLexeme
         }
     }
 }

@@ -14,16 +14,12 @@ use Rattle.text.specs.Lexemes.{mark}
 use Rattle.text.specs.declared.Lexeme.the-variants.{Token, NoLexeme}
 use Rattle.text.proofs.Sizes.{Sized}
 use Rattle.marks.proofs.Spellings.{no-second}
+use Rattle.marks.proofs.Starts.{start-inside}
 
 two-inside : (bs : List ℕ) → 0 < kinds.mark (at bs 0 ∷ at bs 1 ∷ []) → 2 ≤ length bs
 two-inside [] h = absurd (omega (arith, no-second 256))
 two-inside (b ∷ []) h = absurd (omega (arith, no-second b))
 two-inside (b ∷ c ∷ bs) h = omega arith
-
-one-inside : (bs : List ℕ) → 0 < kinds.mark (at bs 0 ∷ []) → 1 ≤ length bs
-unfolding kinds.mark kinds.marks kinds.bytes kinds.same kinds.search-from
-one-inside [] h = absurd (omega arith)
-one-inside (b ∷ bs) h = omega arith
 
 choice-sized : (a b : Bool) (two one most : ℕ) → (a ≡ true → 2 ≤ most) → (b ≡ true → 1 ≤ most) →
     Sized most (cond a (Token two 2) (cond b (Token one 1) NoLexeme))
@@ -36,4 +32,4 @@ unfolding mark
 mark-sized bs =
     let two = kinds.mark (at bs 0 ∷ at bs 1 ∷ []) in
     let one = kinds.mark (at bs 0 ∷ []) in
-    choice-sized (ltb 0 two) (ltb 0 one) two one (length bs) (λ e. two-inside bs (ltb-true 0 two e)) (λ e. one-inside bs (ltb-true 0 one e))
+    choice-sized (ltb 0 two) (ltb 0 one) two one (length bs) (λ e. two-inside bs (ltb-true 0 two e)) (start-inside bs)

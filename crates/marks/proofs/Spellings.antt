@@ -28,7 +28,7 @@ apart value keys t {b} h r =
     sym (eqb→eq (value b) 0
     (or-else (hasKey keys b) (eqb (value b) 0) (every-at (λ b. hasKey keys b || eqb (value b) 0) 0 256 t (omega arith) h) (no-key keys b r)))
 
-and-false : (a : Bool) → a && false ≡ false
+pub and-false : (a : Bool) → a && false ≡ false
 and-false true = refl
 and-false false = refl
 

@@ -1,10 +1,25 @@
 // The mark at the front of the rest of a text.
+ghost use mathlib.Core.Bool.{true};
 ghost use mathlib.Core.Path.{_≡_};
 ghost use mathlib.Core.List.{[], _∷_};
 ghost use Rattle.kinds.specs.Kinds as kinds;
+ghost use Rattle.marks.specs.Starts.{starts-mark};
 ghost use Rattle.text.specs.Bytes.{at};
 ghost use Rattle.text.specs.Lexemes as lexemes;
 use text::Lexeme;
+
+// Whether a mark starts with this byte. In byte order the starts are %& ()*+,- / :;<=> [ ]^ {|}~.
+pub fn starts_mark(b: u8) -> bool
+    ensures { λ r. ⌜ r ≡ starts-mark b ⌝ }
+{
+    ((b'%' <= b) & (b <= b'&'))
+        | ((b'(' <= b) & (b <= b'-'))
+        | (b == b'/')
+        | ((b':' <= b) & (b <= b'>'))
+        | (b == b'[')
+        | ((b']' <= b) & (b <= b'^'))
+        | ((b'{' <= b) & (b <= b'~'))
+}
 
 // The kind of the mark that is this byte; 0 where there is none.
 fn one_byte(b: u8) -> u32
@@ -55,21 +70,14 @@ fn two_bytes(bs: &[u8]) -> u32
     }
 }
 
-// The longer mark at the front.
+// The longer mark at the front, where one starts.
 pub fn mark(bs: &[u8]) -> Lexeme
+    requires { ⌜ starts-mark (at (now bs) 0) ≡ true ⌝ }
     ensures { λ r. ⌜ r ≡ lexemes.mark (now (bs .entry)) ⌝ }
 {
     let two = two_bytes(bs);
     if 0 < two {
         return Lexeme::Token(two, 2);
     }
-    if bs.len() == 0 {
-        return Lexeme::NoLexeme;
-    }
-    let one = one_byte(bs[0]);
-    if 0 < one {
-        Lexeme::Token(one, 1)
-    } else {
-        Lexeme::NoLexeme
-    }
+    Lexeme::Token(one_byte(bs[0]), 1)
 }

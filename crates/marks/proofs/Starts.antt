@@ -1,0 +1,45 @@
+-- What the first byte says: where it starts a mark it stands inside the text and is in no other class; where not, there is no mark.
+-- Past the end stands 256, which starts no mark; a mark of two bytes is a byte twice, and that byte starts a mark. Assumes nothing.
+use mathlib.Core.Path.{_≡_, refl, ap, sym, _∙_}
+use mathlib.Core.Bool.{Bool, true, false, not, _&&_, true≢false}
+use mathlib.Core.List.{List, [], _∷_}
+use Prim.Native.Char.{code}
+use Prim.Native.Nat.{ℕ, _<_}
+use native.Mathlib.Omega.{arith}
+use borrow.Author.Tests.{ne-eqb}
+use lib.Dec.{T, eqb}
+use lib.ListN.{length}
+use Rattle.kinds.specs.Kinds as kinds
+use Rattle.text.specs.Bytes.{at}
+use Rattle.text.specs.Lexemes.{mark}
+use Rattle.text.specs.declared.Lexeme.the-variants.{NoLexeme}
+use Rattle.text.proofs.Ranges.{every, every-at}
+use Rattle.marks.specs.Starts.{starts-mark}
+use Rattle.marks.proofs.Spellings.{and-false}
+
+pub start-inside : (bs : List ℕ) → starts-mark (at bs 0) ≡ true → 0 < length bs
+unfolding kinds.mark
+start-inside [] e = absurd (true≢false (sym e))
+start-inside (b ∷ bs) e = omega arith
+
+not-both : (a b : Bool) → T (not (a && b)) → a ≡ true → b ≡ false
+not-both true true t e = absurd t
+not-both true false t e = refl
+not-both false b t e = absurd (true≢false (sym e))
+
+-- a byte that starts a mark is not in the class, where that is so of each of the 256 bytes
+pub no-other : (class : ℕ → Bool) → T (every (λ b. not (starts-mark b && class b)) 0 256) →
+    {b : ℕ} → b < 256 → starts-mark b ≡ true → class b ≡ false
+no-other class t {b} h = not-both (starts-mark b) (class b) (every-at (λ b. not (starts-mark b && class b)) 0 256 t (omega arith) h)
+
+-- a byte that starts no mark is none that does
+no-start : (k x : ℕ) → starts-mark k ≡ true → starts-mark x ≡ false → eqb x k ≡ false
+no-start k x e f = ne-eqb x k (λ h. true≢false (sym e ∙ ap starts-mark (sym h) ∙ f))
+
+no-two : (x y : ℕ) → starts-mark x ≡ false → kinds.mark (x ∷ y ∷ []) ≡ 0
+unfolding kinds.mark
+no-two x y e = simp (and-false, no-start (code ":") x refl e, no-start (code ">") x refl e, no-start (code "<") x refl e)
+
+pub no-mark : (bs : List ℕ) → starts-mark (at bs 0) ≡ false → NoLexeme ≡ mark bs
+unfolding mark
+no-mark bs e = sym (rw (no-two (at bs 0) (at bs 1) e, e))
