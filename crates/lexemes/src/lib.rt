@@ -88,7 +88,7 @@ pub fn lexeme(words: &[u8; 932], bs: &[u8]) -> Lexeme
         b'_' => underscore(bs),
         b'.' => number(bs),
         _ => {
-            // Asked first: the compiler joins this test with the `match`.
+            // Asked first: measured so, the token part takes the fewest instructions.
             if starts_mark(first) {
                 return mark(bs);
             }
