@@ -107,11 +107,12 @@ module _ (text : List ℕ) {table₁ tree₁ table₂ tree₂ : List ℕ} {setti
       Kept r₁ r₂ table₁′ table₂′ tree₁′ tree₂′
   larger-call = demand-3.larger-call idl-checked text a b good₁ good₂ deeper
 
-  -- a token table that is full is refused again exactly when it holds fewer records than the count named, whatever tree table is lent
+  -- A call that differs only in that table: a full token table is refused again exactly when it holds fewer records than the count named,
+  -- whatever tree table is lent,
   pub full-token-table : r₁ .number ≡ 6 → Again (r₁ .tokens) (capacity token-width table₂) r₁ r₂
   full-token-table = demand-3.full-token-table idl-checked text a b good₁ good₂ deeper
 
-  -- so is a tree table, where the token table is nowhere smaller; and with the count named the text is accepted
+  -- and a full tree table likewise, where the token table is nowhere smaller; with the count named the text is accepted
   pub full-tree-table : capacity token-width table₁ ≤ capacity token-width table₂ → r₁ .number ≡ 9 →
       Again (r₁ .records) (capacity node-width tree₂) r₁ r₂
   full-tree-table = demand-3.full-tree-table idl-checked text a b good₁ good₂ deeper

@@ -1,7 +1,6 @@
 -- Paper 01, "Try these stand-ins": readers that the words of the demands shut out. Each is shown from a promise alone, so that one that
 -- is weakened is noticed here. The accepted texts are starred samples; their trees differ in the first number.
 use Prim.Native.Nat.{ℕ, suc, _≤_}
-use Prim.Native.String.{String}
 use mathlib.Core.Path.{_≡_, refl, ap, sym, _∙_}
 use mathlib.Core.Bool.{Bool, true, false, cond}
 use mathlib.Core.Logic.{inr}
