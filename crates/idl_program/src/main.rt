@@ -1,32 +1,34 @@
-// Reads an IDL text from standard input and writes what the reader says of it: the counts and the tree, or the refusal.
-use replies::Reply;
+// Reads an IDL text from standard input and prints what the reader says of it: the counts and the tree, or the refusal.
+// Where reading or writing fails, it says so on standard error: it answers for no text that it has not read to its end.
+ghost use Prim.Native.Nat.{_<_};
+ghost use lib.ListN.{length};
+ghost use Rattle.printing.specs.Printed.{longest};
+ghost use Rattle.streams.specs.Transfer.{Within};
+use printing::LONGEST;
+use printing::ROOM;
+use streams::Transfer;
 
-// The longest input in bytes, and the records that each table holds.
-const INPUT: usize = 16384;
+// There is room for more than the longest text, so that a longer input is seen to be longer.
+fn read(text: &mut [u8]) -> Transfer
+    requires { ⌜ longest < length (now text) ⌝ }
+    ensures { λ r. ⌜ Within (length (now (text .exit))) r ⌝ }
+{
+    streams::read_all(libc::STDIN_FILENO, text)
+}
 
-const RECORDS: usize = 4096;
-
-// The depth setting is the program's own: it stays where the reader's ceiling grows.
-const DEPTH: u32 = 64;
-
-// What a report needs: 52 bytes for its first line, and 11 for each number of the tree.
-const ROOM: usize = 52 + 11 * 4 * RECORDS;
-
-// A longer input than the program takes is answered as a longer text than the reader takes.
-fn read(text: &[u8], tree: &mut [u32]) -> Reply {
-    if INPUT < text.len() {
-        return Reply::outside_limits();
+fn print(text: &[u8]) {
+    let mut out = [0u8; ROOM];
+    let size = printing::put_answer(text, &mut out);
+    if !streams::write_all(libc::STDOUT_FILENO, &out[..size]) {
+        os::fail(b"idl: standard output");
     }
-    let mut tokens = [0u32; 3 * RECORDS];
-    reader::read(text, &mut tokens, tree, DEPTH)
 }
 
 fn main() {
-    let mut text = [0u8; INPUT + 1];
-    let size = io::read_full(0, &mut text);
-    let mut tree = [0u32; 4 * RECORDS];
-    let reply = read(&text[..size], &mut tree);
-    let mut out = [0u8; ROOM];
-    let written = report::put_report(&mut out, reply, &tree);
-    io::write_all(1, &out[..written]);
+    let mut text = [0u8; LONGEST + 1];
+    let Transfer::Bytes(size) = read(&mut text) else {
+        os::fail(b"idl: standard input");
+        return;
+    };
+    print(&text[..size]);
 }
