@@ -2,3 +2,4 @@ pub mod Copied
 pub mod Decimal
 pub mod Listed
 pub mod Written
+pub mod Sample
