@@ -11,9 +11,10 @@ use lib.ListN.{length}
 use Rattle.grammar.specs.Record.{TreeRecord, tree-record}
 use Rattle.replies.specs.declared.Reply.{Reply}
 use Rattle.replies.specs.Replies as rows
-use Rattle.tables.specs.Tables.{Records, none, more, node-width}
+use Rattle.tables.specs.Tables.{Records, none, more, front, token-width, node-width}
 use Rattle.meaning.specs.Sense.{blamed, derived, numbers}
-use Rattle.meaning.specs.Verdict.{Verdict, grammar, accepted, fitted, judged, TextVerdict, judgement, tokens-fitted}
+use Rattle.meaning.specs.Verdict.{Verdict, grammar, deep, full, accepted, fitted, judged, TextVerdict, judgement, tokens-fitted}
+use Rattle.meaning.specs.Answer.{tree-reply, tokens-kept}
 
 pub fault-range : (number place : ℕ) → (2 ≤ rows.fault number place .number) × (rows.fault number place .number ≤ 5)
 fault-range number place = go (eqb number 2) (eqb number 3) (eqb number 4)
@@ -46,3 +47,12 @@ blame-given p t room q h = simp (le-ltb p q h)
 pub records-given : (p t room : ℕ) (rs : List (List ℕ)) → t ≤ p → judged p t room (derived rs) ≡ fitted room rs
 unfolding judged
 records-given p t room rs h = simp (le-ltb p t h)
+
+-- the tokens stay where the tree is accepted
+pub tokens-stay : (text : ℕ) (ts : List (List ℕ)) (table : List ℕ) (v : Verdict) → tree-reply text ts v .number ≡ 0 →
+    tokens-kept v ts table ≡ front token-width ts table
+unfolding tree-reply tokens-kept
+tokens-stay text ts table (grammar q) e = absurd (omega arith)
+tokens-stay text ts table (deep q) e = absurd (omega arith)
+tokens-stay text ts table (full r) e = absurd (omega arith)
+tokens-stay text ts table (accepted rs) e = refl

@@ -25,7 +25,7 @@ use Rattle.prediction.proofs.Theorems as theorems
 use Rattle.verdicts.specs.Samples.{All, Holds, starred}
 use Rattle.verdicts.proofs.OneMeaning.{some-text-sense, one-text-sense}
 use Rattle.verdicts.proofs.Samples.{starred-hold}
-use Rattle.promises.specs.Demands.{Accepted, Blamed, Kept, Again, TreeKept}
+use Rattle.promises.specs.Demands.{TreeAccepted, Accepted, TreeBlamed, Blamed, Kept, Again, TreeKept}
 use Rattle.promises.proofs.Demand1 as demand-1
 use Rattle.promises.proofs.Demand2 as demand-2
 use Rattle.promises.proofs.Demand3 as demand-3
@@ -121,9 +121,11 @@ module _ (text : List ℕ) {table₁ tree₁ table₂ tree₂ : List ℕ} {setti
       r₂ .number ≡ 0
   room-enough = demand-3.room-enough idl-checked text a b good₁ good₂ deeper
 
--- The tree part called alone. Demand 1:
+-- The tree part called alone.
+
 module _ (table : List ℕ) (count text : ℕ) {tree : List ℕ} {setting : ℕ} {r : Reply} {tree′ : List ℕ}
     (a : TreeAnswered idl table count text tree setting r tree′) where
+  -- Demand 1. The same, of the table that it writes
   pub bad-tree-call : good-tree-call table count text setting ≡ false → (r ≡ rows.outside-limits) × (tree′ ≡ tree)
   bad-tree-call = a .outside
 
@@ -133,7 +135,26 @@ module _ (table : List ℕ) (count text : ℕ) {tree : List ℕ} {setting : ℕ}
   pub tree-refusal-zeroes : 2 ≤ r .number → ((7 ≤ r .number) × (r .number ≤ 9)) × (tree′ ≡ zeroed tree)
   tree-refusal-zeroes = demand-1.tree-refusal-zeroes idl-checked table count text tree setting a
 
--- Demand 3: two good calls on token tables that agree up to the count, the second with a depth setting nowhere smaller
+  -- Demand 2. A good call, on the list of its token records
+  module _ (good : good-tree-call table count text setting ≡ true) where
+    abbrev list : List (List ℕ)
+    list = first-records token-width count table
+
+    pub tree-accepted-only : r .number ≡ 0 → TreeAccepted idl text list tree setting r tree′
+    tree-accepted-only = demand-2.tree-accepted-only idl-checked table count text a good
+
+    pub tree-accepted-always : (g : Forest) → Derivation idl (map kind list) g → length (tree-records idl g) ≤ capacity node-width tree →
+        Within (kind-at (map kind list)) setting 0 (length (map kind list)) → r .number ≡ 0
+    tree-accepted-always = demand-2.tree-accepted-always idl-checked table count text a good
+
+    pub tree-blamed-only : r .number ≡ 7 → TreeBlamed idl text list setting r
+    tree-blamed-only = demand-2.tree-blamed-only idl-checked table count text a good
+
+    pub tree-blamed-always : (q : ℕ) → Blame idl (map kind list) q → Within (kind-at (map kind list)) setting 0 q →
+        r ≡ rows.grammar (place text list q) (length list)
+    tree-blamed-always = demand-2.tree-blamed-always idl-checked table count text a good
+
+-- Demand 3. Two good calls on token tables that agree up to the count, the second with a depth setting nowhere smaller:
 module _ {table₁ table₂ : List ℕ} (count text : ℕ) {tree₁ tree₂ : List ℕ} {setting₁ setting₂ : ℕ} {r₁ r₂ : Reply} {tree₁′ tree₂′ : List ℕ}
     (a : TreeAnswered idl table₁ count text tree₁ setting₁ r₁ tree₁′) (b : TreeAnswered idl table₂ count text tree₂ setting₂ r₂ tree₂′)
     (good₁ : good-tree-call table₁ count text setting₁ ≡ true) (good₂ : good-tree-call table₂ count text setting₂ ≡ true)

@@ -53,11 +53,12 @@ sample-tree : (s : Row) → Holds s → s .said .number ≡ 0 → {table tree : 
     Accepted idl (bytes (s .text)) table tree setting r table′ tree′ → tree′ ≡ front node-width (s .tree) tree
 unfolding Holds
 sample-tree s h z {tree = tree} x =
-    let f = tree-records idl (x .forest) in
-    let e = h (sense.read (x .list) (sense.derived f)) (means-tokens (x .splits) (means-tree (x .forest) (x .derives))) in
+    let t = x .tree-part in
+    let f = tree-records idl (t .forest) in
+    let e = h (sense.read (x .list) (sense.derived f)) (means-tokens (x .splits) (means-tree (t .forest) (t .derives))) in
     let n = length (bytes (s .text)) in
     let d = derived-tree (s .setting) (s .token-room) (s .tree-room) (x .list) f n (ap (λ (y : Reply). y .number) (e .0) ∙ z) in
-    x .tree-written ∙ ap (λ (l : List (List ℕ)). front node-width l tree) (sym d ∙ e .1)
+    t .tree-written ∙ ap (λ (l : List (List ℕ)). front node-width l tree) (sym d ∙ e .1)
 
 -- the second and the seventh of the starred rows
 second : {P : Row → Type 0} {a b : Row} {rs : List Row} → All P (a ∷ b ∷ rs) → P b

@@ -19,30 +19,38 @@ use Rattle.meaning.specs.Verdict as verdict
 use Rattle.meaning.specs.Verdict.{Verdict}
 use Rattle.meaning.specs.Answer.{place, tree-reply}
 
--- Demand 2, an acceptance: the text splits into lexemes, the grammar derives its tokens, room and depth are enough; the reply has its place
--- and both counts, and the tables hold the tokens and the tree
-pub record Accepted (E : Edition) (text table tree : List ℕ) (setting : ℕ) (r : Reply) (table′ tree′ : List ℕ) : Type 0 where
-  pub list : List (List ℕ)
+-- Demand 2, an acceptance of a list of tokens: the grammar derives it, room and depth are enough; the reply has its place and both counts,
+-- and the tree table holds the tree
+pub record TreeAccepted (E : Edition) (text : ℕ) (list : List (List ℕ)) (tree : List ℕ) (setting : ℕ) (r : Reply) (tree′ : List ℕ) : Type 0 where
   pub forest : Forest
-  pub splits : tokens-of text ≡ tokens list
   pub derives : Derivation E (map kind list) forest
-  pub tokens-fit : length list ≤ capacity token-width table
   pub records-fit : length (tree-records E forest) ≤ capacity node-width tree
   pub shallow : Within (kind-at (map kind list)) setting 0 (length (map kind list))
-  pub said : r ≡ rows.accepted (length text) (length list) (length (tree-records E forest))
-  pub tokens-written : table′ ≡ front token-width list table
+  pub said : r ≡ rows.accepted text (length list) (length (tree-records E forest))
   pub tree-written : tree′ ≡ front node-width (tree-records E forest) tree
 
--- Demand 2, a grammar refusal: the text splits into lexemes, its tokens fit, they have this place of blame, and no opening mark before it
--- exceeds the depth setting; the reply names its byte and the tokens
+-- of a text: it splits into lexemes, and its tokens fit, are so accepted, and stand in the token table
+pub record Accepted (E : Edition) (text table tree : List ℕ) (setting : ℕ) (r : Reply) (table′ tree′ : List ℕ) : Type 0 where
+  pub list : List (List ℕ)
+  pub splits : tokens-of text ≡ tokens list
+  pub tokens-fit : length list ≤ capacity token-width table
+  pub tree-part : TreeAccepted E (length text) list tree setting r tree′
+  pub tokens-written : table′ ≡ front token-width list table
+
+-- Demand 2, a grammar refusal of a list of tokens: it has this place of blame, and no opening mark before it exceeds the depth setting; the
+-- reply names the place and the tokens
+pub record TreeBlamed (E : Edition) (text : ℕ) (list : List (List ℕ)) (setting : ℕ) (r : Reply) : Type 0 where
+  pub token : ℕ
+  pub blame : Blame E (map kind list) token
+  pub shallow : Within (kind-at (map kind list)) setting 0 token
+  pub said : r ≡ rows.grammar (place text list token) (length list)
+
+-- of a text: it splits into lexemes, and its tokens fit and are so refused
 pub record Blamed (E : Edition) (text table : List ℕ) (setting : ℕ) (r : Reply) : Type 0 where
   pub list : List (List ℕ)
-  pub token : ℕ
   pub splits : tokens-of text ≡ tokens list
-  pub blame : Blame E (map kind list) token
   pub tokens-fit : length list ≤ capacity token-width table
-  pub shallow : Within (kind-at (map kind list)) setting 0 token
-  pub said : r ≡ rows.grammar (place (length text) list token) (length list)
+  pub tree-part : TreeBlamed E (length text) list setting r
 
 -- "Replies 2 to 5 and 7 blame the text; 6, 8 and 9 don't."
 unfoldable pub Blames : ℕ → Type 0

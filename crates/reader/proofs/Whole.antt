@@ -25,7 +25,7 @@ use Rattle.meaning.specs.Sense.{Sense, Means, TextSense, read, TextMeans, means
 use Rattle.meaning.specs.Verdict as verdicts
 use Rattle.meaning.specs.Verdict.{Verdict, verdict, text-verdict}
 use Rattle.meaning.specs.Answer.{tree-reply, tree-after, text-reply, tokens-kept, text-tokens-after, text-tree-after}
-use Rattle.meaning.proofs.Laws.{fault-range}
+use Rattle.meaning.proofs.Laws.{fault-range, tokens-stay}
 use Rattle.meaning.specs.Calls.{Answered, first-records, good-tree-call, TreeAnswered}
 
 -- the records at the front of a table, read back
@@ -40,16 +40,7 @@ length-kept : (width : ℕ) {rs : List (List ℕ)} (table : List ℕ) → Record
 length-kept width table q h =
     ap length (sym (store-front width table q (capacity-fits width table _ h))) ∙ length-store width table 0 _
 
--- an accepted verdict, by its reply
-kept-accepted : (text : ℕ) (ts : List (List ℕ)) (table : List ℕ) (v : Verdict) → tree-reply text ts v .number ≡ 0 →
-    tokens-kept v ts table ≡ front token-width ts table
-unfolding tree-reply tokens-kept
-kept-accepted text ts table (verdicts.grammar q) e = absurd (omega arith)
-kept-accepted text ts table (verdicts.deep q) e = absurd (omega arith)
-kept-accepted text ts table (verdicts.full r) e = absurd (omega arith)
-kept-accepted text ts table (verdicts.accepted rs) e = refl
-
--- and a refusal
+-- the tokens are cleared by a refusal
 kept-refused : (text : ℕ) (ts : List (List ℕ)) (table : List ℕ) (v : Verdict) → (tree-reply text ts v .number ≡ 0 → ⊥) →
     tokens-kept v ts table ≡ zeroed table
 unfolding tree-reply tokens-kept
@@ -144,7 +135,7 @@ module _ (setting : ℕ) (text table tree : List ℕ) {r : Bounded} {l : Limits}
 
     accepted-right : reply .number ≡ 0 → (sense : TextSense) → TextMeans idl text sense → Right reply (front token-width ts table) tree′ sense
     accepted-right z sense m =
-        both-right sense m (front token-width ts table) (λ v a. sym (kept-accepted (length text) ts table v (sym (ap (λ (r : Reply). r .number) a) ∙ z)))
+        both-right sense m (front token-width ts table) (λ v a. sym (tokens-stay (length text) ts table v (sym (ap (λ (r : Reply). r .number) a) ∙ z)))
 
     denied-right : (reply .number ≡ 0 → ⊥) → (sense : TextSense) → TextMeans idl text sense →
         Right reply (zeroed (front token-width ts table)) tree′ sense
