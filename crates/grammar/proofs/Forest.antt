@@ -1,6 +1,6 @@
 -- Laws of forests side by side: their widths and their nodes add up.
 -- By induction on the second forest.
-use Prim.Native.Nat.{ℕ, _+_}
+use Prim.Native.Nat.{_+_}
 use mathlib.Core.Path.{_≡_, refl, ap, sym}
 use native.Mathlib.Nat.{add-zero}
 use native.Mathlib.Omega.{arith}

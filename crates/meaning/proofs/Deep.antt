@@ -4,7 +4,7 @@ use Prim.Native.Nat.{ℕ, zero, suc, _≤_, _<_}
 use mathlib.Core.Path.{_≡_, subst}
 use mathlib.Core.Bool.{Bool, true, false, not, _&&_, cond}
 use native.Mathlib.Omega.{arith}
-use lib.Dec.{T, leb, ltb, ltb→lt, lt→ltb, nltb→le, leb→le, le→leb, nleb→lt}
+use lib.Dec.{T, leb, ltb, ltb→lt, nltb→le, leb→le, le→leb, nleb→lt}
 use Rattle.grammar.specs.Depth.{opening, depth, Within, TooDeep}
 use Rattle.meaning.specs.Deep.{too-deep, first-too-deep}
 

@@ -13,7 +13,7 @@ use Rattle.replies.specs.declared.Reply.{Reply}
 use Rattle.replies.specs.Replies as rows
 use Rattle.tables.specs.Tables.{Records, none, more, front, token-width, node-width}
 use Rattle.meaning.specs.Sense.{blamed, derived, numbers}
-use Rattle.meaning.specs.Verdict.{Verdict, grammar, deep, full, accepted, fitted, judged, TextVerdict, judgement, tokens-fitted}
+use Rattle.meaning.specs.Verdict.{Verdict, grammar, deep, full, accepted, fitted, judged, judgement, tokens-fitted}
 use Rattle.meaning.specs.Answer.{tree-reply, tokens-kept}
 
 pub fault-range : (number place : ℕ) → (2 ≤ rows.fault number place .number) × (rows.fault number place .number ≤ 5)

@@ -1,7 +1,7 @@
 -- What a good call finds, from the meaning of its text and what it was lent: paper 01, "A good call answers the fault if there is one".
 -- Assumes nothing: these are definitions.
 use Prim.Native.Nat.{ℕ}
-use mathlib.Core.Bool.{Bool, true, false, cond}
+use mathlib.Core.Bool.{cond}
 use mathlib.Core.List.{List, map}
 use lib.Dec.{ltb}
 use lib.ListN.{length}

@@ -28,7 +28,7 @@ use Rattle.meaning.proofs.Laws.{fault-range, room-judged, room-accepted, blame-
 use Rattle.prediction.specs.Check.{Checked}
 use Rattle.verdicts.proofs.OneMeaning.{some-sense}
 use Rattle.promises.specs.Demands.{TreeAccepted, Accepted, TreeBlamed, Blamed}
-use Rattle.promises.proofs.Soundness.{SoundTree, Sound, tree-sound, found, found-sound, answers-found}
+use Rattle.promises.proofs.Soundness.{SoundTree, Sound, tree-sound, found-sound, answers-found}
 
 -- What a verdict says.
 

@@ -1,6 +1,6 @@
 -- Demand 3 of anything that answers as promised: how a second good call on a text follows from a first.
 -- Both answer for the one meaning of the text; how the second verdict follows from the first is a law of verdicts.
-use Prim.Native.Nat.{ℕ, _+_, _*_, _≤_, _<_}
+use Prim.Native.Nat.{ℕ, _*_, _≤_, _<_}
 use mathlib.Core.Path.{_≡_, refl, ap, sym, _∙_, subst}
 use mathlib.Core.Logic.{_⊎_, inl, inr}
 use mathlib.Core.Bool.{Bool, true, false, not, cond}
@@ -18,7 +18,7 @@ use Rattle.text.specs.Tokens.{tokens, tokens-of}
 use Rattle.tokens.proofs.Order.{tokens-records}
 use Rattle.meaning.specs.Sense.{kind}
 use Rattle.meaning.specs.Verdict as verdict
-use Rattle.meaning.specs.Verdict.{Verdict, fitted, TextVerdict, fault, full-tokens, judgement, tokens-fitted, text-verdict}
+use Rattle.meaning.specs.Verdict.{Verdict, fitted, TextVerdict, fault, full-tokens, judgement}
 use Rattle.meaning.specs.Answer.{tree-reply, text-reply, tokens-kept, tree-after, text-tokens-after, text-tree-after}
 use Rattle.meaning.specs.Calls.{Answered}
 use Rattle.meaning.proofs.Laws.{fault-range, room-judged, room-accepted}

@@ -1,8 +1,8 @@
 -- The places of a text's tokens grow with their numbers, and the end of the text is behind them all.
 -- By induction on the tokens, which lie in the text in order and take a byte each at least.
-use Prim.Native.Nat.{ℕ, zero, suc, _+_, _≤_, _<_}
+use Prim.Native.Nat.{ℕ, zero, suc, _≤_, _<_}
 use mathlib.Core.Path.{_≡_, subst}
-use mathlib.Core.List.{List, [], _∷_}
+use mathlib.Core.List.{List}
 use native.Mathlib.Omega.{arith}
 use lib.ListN.{length}
 use Rattle.text.specs.Tokens.{Tokens, tokens, tokens-of}

@@ -1,11 +1,10 @@
 -- Demand 3 of the tree part called alone, on two token tables that agree up to the count: these are one text.
 -- Both calls answer for the one meaning of the tokens; how the second verdict follows from the first is a law of verdicts.
-use Prim.Native.Nat.{ℕ, _*_, _≤_}
+use Prim.Native.Nat.{ℕ, _≤_}
 use mathlib.Core.Path.{_≡_, refl, ap, sym, subst, _∙_}
 use mathlib.Core.Bool.{true}
 use mathlib.Core.List.{List, map}
 use native.Mathlib.Omega.{arith}
-use lib.ListN.{take}
 use Rattle.grammar.specs.Rule.{Edition}
 use Rattle.replies.specs.declared.Reply.{Reply}
 use Rattle.tables.specs.Tables.{capacity, token-width, node-width}

@@ -1,6 +1,6 @@
 -- The whole reader's answer from those of its two parts: what the token part refuses is refused, what it accepts is the tree part's to judge.
 -- The token table read back is the tokens of the text, so both parts speak of one meaning. Assumes nothing.
-use Prim.Native.Nat.{ℕ, _+_, _*_, _≤_}
+use Prim.Native.Nat.{ℕ, _*_, _≤_}
 use mathlib.Core.Path.{_≡_, refl, ap, sym, _∙_, subst}
 use mathlib.Core.Bool.{Bool, true, false, _&&_, cond, true≢false}
 use mathlib.Core.List.{List, _++_, map, append-assoc}

@@ -2,7 +2,7 @@
 -- By induction on the plan; that the last alternative needs no test is prediction's law. Assumes nothing.
 use Prim.Native.Nat.{ℕ, zero, suc, _+_, _≤_}
 use native.Mathlib.Omega.{arith}
-use mathlib.Core.Path.{_≡_, refl, sym, subst}
+use mathlib.Core.Path.{_≡_, sym, subst}
 use mathlib.Core.Logic.{_⊎_, inl, inr, ⊎-elim}
 use mathlib.Core.Bool.{Bool, true, false, not, _&&_, _||_}
 use mathlib.Core.List.{List, [], _∷_, _++_}
@@ -13,7 +13,7 @@ use Rattle.prediction.specs.Sets.{subset, disjoint, subset-in, disjoint-not, an
 use Rattle.prediction.specs.Sets.{or-right, or-cases, decide, elem-left, elem-right, elem-eq}
 use Rattle.prediction.specs.Plan.{Plan, token, group, call, wrap, seq, alt, skip, many}
 use Rattle.prediction.specs.Typing.{Table, first, null}
-use Rattle.prediction.specs.Run.{Outcome, blame, goes, turns, Runs, run-left, run-right, run-neither, run-seq}
+use Rattle.prediction.specs.Run.{Outcome, goes, turns, Runs, run-left, run-right, run-neither, run-seq}
 use Rattle.prediction.specs.Run.{run-seq-stop}
 use Rattle.prediction.specs.Run.{run-skip, run-last, run-more, run-more-stop}
 use Rattle.prediction.proofs.Choice.{miss, run-then, run-else}

@@ -13,7 +13,7 @@ use Rattle.prediction.specs.Run.{Outcome, blame, deep, stopped, Runs, run-token
 use Rattle.prediction.specs.Run.{run-inside}
 use Rattle.prediction.specs.Run.{run-group, run-unclosed, run-seq, run-seq-stop}
 use Rattle.prediction.proofs.IdlChecked.{idl-table}
-use Rattle.readers_core.specs.Reading.{kind-at, view, State, Seen, seen, Held, Ends, ends-blame, ends-deep, Ran, From}
+use Rattle.readers_core.specs.Reading.{kind-at, view, State, Seen, seen, Ends, ends-blame, ends-deep, Ran, From}
 use Rattle.readers_core.specs.Reading.{Opens, opens-stopped, opens-blamed, opens-deep, opens-inside}
 use Rattle.readers_core.proofs.Holding.{held-token}
 use Rattle.readers_core.proofs.Sequence.{after, stays}

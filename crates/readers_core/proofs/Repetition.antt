@@ -18,7 +18,7 @@ use Rattle.prediction.specs.Look.{Look, look-nothing, look-some, look}
 use Rattle.prediction.specs.Run.{Outcome, done, blame, deep, Runs, sound}
 use Rattle.prediction.specs.Check.{all-typed}
 use Rattle.prediction.proofs.IdlChecked.{idl-checked, idl-table}
-use Rattle.readers_core.specs.Reading.{kind-at, ahead, view, State, Seen, seen, Ends, ends-done, ends-blame}
+use Rattle.readers_core.specs.Reading.{kind-at, ahead, view, State, seen, Ends, ends-done, ends-blame}
 use Rattle.readers_core.specs.Reading.{ends-deep, From}
 use Rattle.readers_core.proofs.Shapes.{leaves}
 use Rattle.readers_core.proofs.Sequence.{_▸_, skipped}

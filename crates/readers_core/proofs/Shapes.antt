@@ -2,10 +2,10 @@
 -- By induction on the run; every plan of a rule leaves one node, by one computed test over the plans. Assumes nothing.
 use Prim.Native.Nat.{ℕ}
 use mathlib.Core.Path.{_≡_, refl, ap, sym, _∙_, subst}
-use mathlib.Core.Bool.{Bool, true, false, not, _&&_, _||_, cond}
+use mathlib.Core.Bool.{Bool, true, false, not, _&&_, cond}
 use mathlib.Core.List.{List, [], _∷_, _++_}
-use mathlib.Core.Logic.{_⊎_, inl, inr, ⊎-elim}
-use lib.Dec.{T, T-not, eqb, eqb→eq, eqb-refl}
+use mathlib.Core.Logic.{_⊎_, ⊎-elim}
+use lib.Dec.{T, eqb, eqb→eq, eqb-refl}
 use Rattle.grammar.specs.Forest.{Forest, end, leaf, node, join}
 use Rattle.grammar.proofs.Forest.{join-end}
 use Rattle.grammar.specs.Idl.{idl}

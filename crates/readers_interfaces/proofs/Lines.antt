@@ -4,9 +4,9 @@ use Prim.Native.Nat.{ℕ}
 use mathlib.Core.List.{List}
 use Rattle.grammar.specs.Forest.{Forest}
 use Rattle.prediction.specs.Plan.{Plan, token, group, call, wrap, seq, alt, skip, many}
-use Rattle.prediction.specs.Run.{Outcome, done, stopped, Runs, run-seq, run-seq-stop}
+use Rattle.prediction.specs.Run.{Outcome, stopped, Runs, run-seq, run-seq-stop}
 use Rattle.prediction.proofs.IdlChecked.{idl-table}
-use Rattle.readers_core.specs.Reading.{kind-at, State, From}
+use Rattle.readers_core.specs.Reading.{State, From}
 use Rattle.readers_core.proofs.Shapes.{leaves}
 use Rattle.readers_core.proofs.Sequence.{_▸_}
 

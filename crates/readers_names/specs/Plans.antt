@@ -1,6 +1,6 @@
 -- The parts of plans that readers of names, literals and basic types follow: kinds and rules by number, as in paper 01 and 000.
 -- Assumes nothing: these are definitions.
-use Rattle.prediction.specs.Plan.{Plan, token, call, wrap, seq, alt, many}
+use Rattle.prediction.specs.Plan.{Plan, token, call, wrap, seq, alt}
 
 -- a name, which "::" may precede; and each further step behind it
 abbrev pub first-name : Plan

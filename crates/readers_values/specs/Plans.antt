@@ -1,7 +1,7 @@
 -- The parts of plans that readers of values follow: kinds and rules by number, as in paper 01 and 000.
 -- Assumes nothing: these are definitions.
 use Prim.Native.Nat.{ℕ}
-use mathlib.Core.List.{List, [], _∷_}
+use mathlib.Core.List.{List, _∷_}
 use Rattle.prediction.specs.Plan.{Plan, token, group, call, wrap, seq, alt, skip, many}
 use Rattle.readers_interfaces.specs.Plans.{further, listed, export-starts}
 

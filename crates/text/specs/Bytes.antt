@@ -1,9 +1,9 @@
 -- The bytes of a text by class, and the bytes of one class in a row: paper 01, "From bytes to tokens".
 -- A text is the list of its bytes. Assumes nothing: these are definitions.
-use mathlib.Core.Bool.{Bool, true, false, not, _&&_, _||_, cond}
+use mathlib.Core.Bool.{Bool, not, _&&_, _||_, cond}
 use mathlib.Core.List.{List, [], _∷_}
 use Prim.Native.Char.{code}
-use Prim.Native.Nat.{ℕ, zero, suc}
+use Prim.Native.Nat.{ℕ, suc}
 use lib.Dec.{eqb, leb}
 use lib.ListN.{getD}
 use Rattle.text.specs.declared.Class.{Class}

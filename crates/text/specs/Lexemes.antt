@@ -1,6 +1,6 @@
 -- The lexeme at the front of the rest of a text: paper 01, "Otherwise the longest lexeme is taken", and "Marks".
 -- Assumes nothing: these are definitions.
-use mathlib.Core.Bool.{Bool, true, false, _&&_, _||_, cond}
+use mathlib.Core.Bool.{Bool, _&&_, _||_, cond}
 use mathlib.Core.List.{List, [], _∷_}
 use Prim.Native.Char.{code}
 use Prim.Native.Nat.{ℕ}

@@ -1,6 +1,6 @@
 -- Numbers: paper 01, "Integer", "Floating", "Fixed" and the sentence after them.
 -- Each form is the length of the longest number of that form at the front, 0 where there is none.
-use mathlib.Core.Bool.{Bool, true, false, _&&_, _||_, cond}
+use mathlib.Core.Bool.{Bool, _&&_, _||_, cond}
 use mathlib.Core.List.{List}
 use Prim.Native.Char.{code}
 use Prim.Native.Nat.{ℕ, _+_, max}

@@ -1,6 +1,6 @@
 -- What the state in which the reading of a whole list has ended answers.
 -- Assumes nothing: these are definitions, inner ones: what the tree part promises is said by the meaning of its tokens.
-use mathlib.Core.Bool.{Bool, true, false, cond}
+use mathlib.Core.Bool.{Bool, false, cond}
 use mathlib.Core.List.{List}
 use Prim.Native.Nat.{ℕ, _+_, _*_}
 use lib.Dec.{eqb, ltb}

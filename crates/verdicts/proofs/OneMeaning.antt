@@ -5,8 +5,6 @@ use mathlib.Core.Path.{_≡_, refl, ap, sym, _∙_, subst}
 use mathlib.Core.List.{List, map}
 use Rattle.grammar.specs.Forest.{Forest}
 use Rattle.grammar.specs.Rule.{Edition}
-use Rattle.grammar.specs.Blame.{Blame}
-use Rattle.grammar.specs.Derivation.{Derivation}
 use Rattle.grammar.specs.Meaning.{Meaning, derived, blamed}
 use Rattle.text.specs.Tokens as text
 use Rattle.meaning.specs.Sense as sense

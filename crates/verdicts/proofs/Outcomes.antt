@@ -1,20 +1,19 @@
 -- What a predictive reader finds is the verdict on its tokens, whatever it was lent.
 -- By the cases of what its answer says and of the meaning; the first mark too deep comes before the place of blame or it does not.
 use Prim.Native.Nat.{ℕ, suc, _≤_, _<_}
-use mathlib.Core.Path.{_≡_, refl, ap, sym, _∙_}
+use mathlib.Core.Path.{_≡_}
 use mathlib.Core.Bool.{Bool, true, false, not, cond}
 use mathlib.Core.List.{List}
 use native.Mathlib.Omega.{arith}
 use borrow.Author.Tests.{lt-ltb, le-ltb, eq-eqb, ne-eqb}
 use lib.Dec.{T, eqb, ltb, ltb→lt, nltb→le}
 use lib.ListN.{length}
-use Rattle.grammar.specs.Forest.{Forest}
 use Rattle.grammar.specs.Rule.{Edition}
 use Rattle.grammar.specs.Derivation.{kind-at}
 use Rattle.grammar.specs.Blame.{Begins, Blame}
 use Rattle.grammar.proofs.Blame.{shorter}
 use Rattle.meaning.specs.Deep.{first-too-deep}
-use Rattle.meaning.proofs.Deep.{first-is, first-relation, first-after}
+use Rattle.meaning.proofs.Deep.{first-relation, first-after}
 use Rattle.meaning.specs.Sense.{Sense, Means, means-blame, means-tree, tree-records}
 use Rattle.meaning.specs.Verdict.{Verdict, grammar, deep, full, accepted, judged, verdict}
 use Rattle.prediction.specs.Check.{Checked}

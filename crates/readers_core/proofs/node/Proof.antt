@@ -2,7 +2,7 @@
 -- At the ceiling of the count, and after a stop, nothing is done. Assumes nothing.
 use Prim.Native.Nat.{_<_}
 use borrow.Author.Needs.{needs}
-use mathlib.Core.Path.{_∙_, refl}
+use mathlib.Core.Path.{_∙_}
 use native.Mathlib.Omega.{arith}
 use Rattle.readers_core.proofs.Sequence.{full-node, recorded-node}
 use Rattle.readers_core.proofs.Storing.{write-below}

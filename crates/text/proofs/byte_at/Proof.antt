@@ -1,6 +1,6 @@
 -- `text::byte_at` meets its contract: the byte where there is one, and 256 past the end.
 -- A byte fits 32 bits; past a list's end stands the default. Assumes nothing.
-use mathlib.Core.Path.{_≡_, refl, sym}
+use mathlib.Core.Path.{sym}
 use native.Mathlib.Omega.{arith}
 use borrow.Author.Needs.{needs}
 use lib.ListN.{List·getD-eq-default}

@@ -1,7 +1,6 @@
 -- `text::run_of` meets its contract. The loop's invariant: the bytes passed are of the class, so what is left to count is the rest's run.
 -- A byte of the class moves the invariant on; any other, or the end of the text, ends the run. Assumes nothing.
 use Prim.Native.Nat.{_-_}
-use native.Mathlib.Omega.{arith}
 use mathlib.Core.Path.{sym, _∙_}
 use borrow.Author.Needs.{needs}
 use borrow.Author.Tests.{not-true, not-false}
