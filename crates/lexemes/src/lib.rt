@@ -88,7 +88,7 @@ pub fn lexeme(words: &[u8; 932], bs: &[u8]) -> Lexeme
         b'_' => underscore(bs),
         b'.' => number(bs),
         _ => {
-            // Asked first: measured so, the token part takes the fewest instructions.
+            // Asked first: of the orders tried, this one takes the fewest instructions on the timing text.
             if starts_mark(first) {
                 return mark(bs);
             }

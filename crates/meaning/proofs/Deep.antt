@@ -6,19 +6,12 @@ use mathlib.Core.Bool.{Bool, true, false, not, _&&_, cond}
 use native.Mathlib.Omega.{arith}
 use lib.Dec.{T, leb, ltb, ltb→lt, nltb→le, leb→le, le→leb, nleb→lt}
 use Rattle.grammar.specs.Depth.{opening, depth, Within, TooDeep}
+use Rattle.grammar.proofs.Sets.{and-left, and-right}
 use Rattle.meaning.specs.Deep.{too-deep, first-too-deep}
 
 and-both : (a b : Bool) → T a → T b → T (a && b)
 and-both true b t u = u
 and-both false b t u = t
-
-and-first : (a b : Bool) → T (a && b) → T a
-and-first true b t = tt
-and-first false b t = t
-
-and-second : (a b : Bool) → T (a && b) → T b
-and-second true b t = t
-and-second false b t = absurd t
 
 module _ (setting : ℕ) (kinds : ℕ → ℕ) where
   -- p is the first of t tokens that is too deep, or t
@@ -69,8 +62,8 @@ module _ (setting : ℕ) (kinds : ℕ → ℕ) where
   none-too-deep : (j q : ℕ) → Within kinds setting 0 j → q < j → T (too-deep setting kinds q) → ⊥
   unfolding too-deep Within
   none-too-deep j q w h e =
-      let o = and-first (opening (kinds q)) (leb setting (depth kinds q)) e in
-      let l = leb→le setting (depth kinds q) (and-second (opening (kinds q)) (leb setting (depth kinds q)) e) in
+      let o = and-left (opening (kinds q)) (leb setting (depth kinds q)) e in
+      let l = leb→le setting (depth kinds q) (and-right (opening (kinds q)) (leb setting (depth kinds q)) e) in
       omega (arith, w q (omega arith) h o)
 
   -- the relation's first is the function's
@@ -111,8 +104,8 @@ first-grows small large kinds t h =
   where
     less-deep : (q : ℕ) → T (too-deep large kinds q) → T (too-deep small kinds q)
     less-deep q e =
-        let l = leb→le large (depth kinds q) (and-second (opening (kinds q)) (leb large (depth kinds q)) e) in
-        and-both (opening (kinds q)) (leb small (depth kinds q)) (and-first (opening (kinds q)) (leb large (depth kinds q)) e)
+        let l = leb→le large (depth kinds q) (and-right (opening (kinds q)) (leb large (depth kinds q)) e) in
+        and-both (opening (kinds q)) (leb small (depth kinds q)) (and-left (opening (kinds q)) (leb large (depth kinds q)) e)
         (le→leb small (depth kinds q) (omega arith))
 
     go : (p q : ℕ) → First small kinds t p → First large kinds t q → p ≤ q

@@ -10,22 +10,8 @@ use lib.ListN.{length}
 use Rattle.grammar.specs.Derivation.{kind-at}
 use Rattle.meaning.specs.Deep.{first-too-deep}
 use Rattle.meaning.specs.Sense.{Sense, blamed, derived, TextSense, faulty, read, kind}
-use Rattle.meaning.specs.Verdict.{
-  Verdict,
-  grammar,
-  deep,
-  full,
-  accepted,
-  fitted,
-  judged,
-  verdict,
-  TextVerdict,
-  fault,
-  full-tokens,
-  judgement,
-  tokens-fitted,
-  text-verdict,
-}
+use Rattle.meaning.specs.Verdict.{Verdict, grammar, deep, full, accepted, fitted, judged, verdict}
+use Rattle.meaning.specs.Verdict.{TextVerdict, fault, full-tokens, judgement, tokens-fitted, text-verdict}
 use Rattle.meaning.proofs.Deep.{first-grows}
 
 -- how the second verdict v′ follows from the first: blame stays; derived records are accepted or not by the room alone; a mark that was

@@ -2,7 +2,7 @@
 -- The token table read back is the tokens of the text, so both parts speak of one meaning. Assumes nothing.
 use Prim.Native.Nat.{ℕ, _*_, _≤_}
 use mathlib.Core.Path.{_≡_, refl, ap, sym, _∙_, subst}
-use mathlib.Core.Bool.{Bool, true, false, _&&_, cond, true≢false}
+use mathlib.Core.Bool.{Bool, true, false, cond, true≢false}
 use mathlib.Core.List.{List, _++_, map, append-assoc}
 use native.Mathlib.Omega.{arith}
 use borrow.Author.Tests.{le-leb, lt-ltb, le-ltb, leb-true, leb-false}
@@ -12,8 +12,8 @@ use Rattle.grammar.specs.Idl.{idl}
 use Rattle.limits.specs.declared.Limits.{Limits}
 use Rattle.limits.specs.declared.Bounded.{Bounded}
 use Rattle.limits.specs.declared.Bounded.the-variants.{Good, Beyond}
-use Rattle.limits.specs.Limits.{good-text, good-depth, good-call, bounded}
-use Rattle.limits.proofs.Laws.{beyond-bad, within-good}
+use Rattle.limits.specs.Limits.{good-text, good-call, bounded}
+use Rattle.limits.proofs.Laws.{text-good, beyond-bad, within-good}
 use Rattle.replies.specs.declared.Reply.{Reply}
 use Rattle.replies.specs.Replies as rows
 use Rattle.tables.specs.Tables.{token-width, node-width, capacity, row, front, zeroed, Records, none, more}
@@ -49,17 +49,13 @@ kept-refused text ts table (verdicts.deep q) e = refl
 kept-refused text ts table (verdicts.full r) e = refl
 kept-refused text ts table (verdicts.accepted rs) e = absurd (e refl)
 
-and-first : (a b : Bool) → (a && b) ≡ true → a ≡ true
-and-first true b e = refl
-and-first false b e = e
-
 module _ (setting : ℕ) (text table tree : List ℕ) {r : Bounded} {l : Limits}
     (made : r ≡ bounded (length text) setting) (within : r ≡ Good l) where
   good : good-call (length text) setting ≡ true
   good = within-good (length text) setting made within
 
   good-length : good-text (length text) ≡ true
-  good-length = and-first (good-text (length text)) (good-depth setting) good
+  good-length = text-good (length text) setting good
 
   reply-is : token-reply text table ≡ answer (length text) table (tokens-of text)
   reply-is = rw good-length

@@ -2,7 +2,7 @@
 -- What was tested decides whether the call is good; a good call is judged by every meaning of its tokens.
 use Prim.Native.Nat.{ℕ, _*_, _^_, _≤_, _<_}
 use mathlib.Core.Path.{_≡_, refl, sym, _∙_}
-use mathlib.Core.Bool.{Bool, true, false, _&&_, true≢false, false≢true}
+use mathlib.Core.Bool.{Bool, true, false, _&&_, true≢false}
 use mathlib.Core.List.{List}
 use native.Mathlib.Omega.{arith}
 use borrow.Author.Tests.{le-leb, lt-leb, leb-true}
@@ -13,8 +13,8 @@ use Rattle.grammar.specs.Idl.{idl}
 use Rattle.limits.specs.declared.Limits.{Limits}
 use Rattle.limits.specs.declared.Bounded.{Bounded}
 use Rattle.limits.specs.declared.Bounded.the-variants.{Good, Beyond}
-use Rattle.limits.specs.Limits.{text-ceiling, good-text, good-depth, good-call, bounded}
-use Rattle.limits.proofs.Laws.{beyond-bad, within-good}
+use Rattle.limits.specs.Limits.{text-ceiling, good-call, bounded}
+use Rattle.limits.proofs.Laws.{text-good, beyond-bad, within-good}
 use Rattle.prediction.specs.Plan.{call}
 use Rattle.replies.specs.declared.Reply.{Reply}
 use Rattle.replies.specs.Replies.{outside-limits}
@@ -28,10 +28,6 @@ use Rattle.tree.proofs.Judged.{judged}
 and-false : (a : Bool) → (a && false) ≡ false
 and-false true = refl
 and-false false = refl
-
-and-left : (a b : Bool) → (a && b) ≡ true → a ≡ true
-and-left true b e = refl
-and-left false b e = absurd (false≢true e)
 
 module _ (tokens : List ℕ) (count text : ℕ) (tree : List ℕ) (setting : ℕ) where
   -- a bad call
@@ -60,7 +56,7 @@ module _ (tokens : List ℕ) (count text : ℕ) (tree : List ℕ) (setting : ℕ
     good = within-good text setting a b
 
     pub text-small : text < 2 ^ 26
-    text-small = omega (arith, leb-true text text-ceiling (and-left (good-text text) (good-depth setting) good))
+    text-small = omega (arith, leb-true text text-ceiling (text-good text setting good))
 
     pub list-short : length (take (token-width * count) tokens) < 2 ^ 32
     list-short =
