@@ -9,10 +9,11 @@ use native.Mathlib.Numerals.{add-one}
 use native.Mathlib.Omega.{arith}
 use lib.Dec.{eqb}
 use lib.ListN.{length, getD, drop, length-drop}
-use lib.Seq.{drop-cons, getD-drop}
-use Rattle.text.specs.Bytes.{at}
+use lib.Seq.{drop-cons, drop-drop, getD-drop}
+use Rattle.text.specs.Bytes.{at, run}
 use Rattle.text.specs.Blanks.{further, to-close}
-use Rattle.text.proofs.Runs.{at-inside}
+use Rattle.text.proofs.Runs.{at-inside, run-within}
+use Rattle.text.specs.Classes.{starless}
 
 -- n bytes more, where there are any
 abbrev pub beyond : ℕ → ℕ → ℕ
@@ -27,6 +28,47 @@ beyond-further : (n k : ℕ) → beyond n (further k) ≡ beyond (n + 1) k
 unfolding further
 beyond-further n zero = refl
 beyond-further n (suc k) = omega arith
+
+beyond-some : (n m : ℕ) → 0 < m → beyond n m ≡ n + m
+beyond-some n zero h = absurd (omega arith)
+beyond-some n (suc m) h = refl
+
+beyond-beyond : (n m k : ℕ) → beyond n (beyond m k) ≡ beyond (n + m) k
+beyond-beyond n m zero = refl
+beyond-beyond n m (suc k) = beyond-some n (m + suc k) (omega arith) ∙ omega arith
+
+further-beyond : (n k : ℕ) → further (beyond n k) ≡ beyond (suc n) k
+unfolding further
+further-beyond n zero = refl
+further-beyond n (suc k) = some (n + suc k) (omega arith) ∙ omega arith
+  where
+    some : (m : ℕ) → 0 < m → further m ≡ suc m
+    some zero h = absurd (omega arith)
+    some (suc m) h = refl
+
+-- bytes that are no stars begin no */
+abbrev Starless : List ℕ → Type 0
+Starless bs = to-close bs ≡ beyond (run starless bs) (to-close (drop (run starless bs) bs))
+
+star-first : (b : ℕ) (bs : List ℕ) → eqb b (code "*") ≡ true → run starless (b ∷ bs) ≡ 0
+unfolding run starless
+star-first b bs e = rw e
+
+starless-first : (b : ℕ) (bs : List ℕ) → eqb b (code "*") ≡ false → Starless bs → Starless (b ∷ bs)
+unfolding run starless to-close
+starless-first b bs e next = rw e (ap further next ∙ further-beyond (run starless bs) (to-close (drop (run starless bs) bs)))
+
+starless-step : (b : ℕ) (bs : List ℕ) → Starless bs → Starless (b ∷ bs)
+starless-step b bs next = go (eqb b (code "*")) refl
+  where
+    go : (x : Bool) → eqb b (code "*") ≡ x → Starless (b ∷ bs)
+    go true e = rw (star-first b bs e) (beyond-none (to-close (b ∷ bs)))
+    go false e = starless-first b bs e next
+
+starless-run : (bs : List ℕ) → Starless bs
+unfolding run
+starless-run [] = beyond-none (to-close [])
+starless-run (b ∷ bs) = starless-step b bs (starless-run bs)
 
 -- a byte and the byte after it are */
 abbrev pub closes : ℕ → ℕ → Bool
@@ -71,6 +113,19 @@ module _ (bs : List ℕ) where
 
     pub passed-closed : closes (getD bs n 0) (getD bs (n + 1) 0) ≡ true → n + 2 ≡ to-close bs
     passed-closed e = sym (ahead e)
+
+  -- and so are the bytes before the next star
+  pub passed-run : {n : ℕ} → Passed bs n → Passed bs (n + run starless (drop n bs))
+  passed-run {n} p =
+      let rest = drop n bs in
+      let m = run starless rest in
+      let w = run-within starless rest in
+      record {
+        within = omega (arith, p .within, length-drop n bs);
+        so-far =
+            p .so-far ∙ ap (beyond n) (starless-run rest) ∙ beyond-beyond n m (to-close (drop m rest))
+            ∙ ap (λ (l : List ℕ). beyond (n + m) (to-close l)) (drop-drop m n bs);
+      }
 
   pub passed-all : {n : ℕ} → length bs ≤ n + 1 → Passed bs n → 0 ≡ to-close bs
   passed-all {n} h p = sym (p .so-far ∙ ap (beyond n) (one-byte (drop n bs) (simp length-drop (omega arith))))

@@ -11,10 +11,11 @@ pub fn line_comment(bs: &[u8]) -> Lexeme
     requires { ⌜ 2 ≤ length (now bs) ⌝ }
     ensures { λ r. ⌜ r ≡ line-comment (now (bs .entry)) ⌝ }
 {
-    Lexeme::Blank(2 + text::run_of(Class::InLine, &bs[2..]))
+    Lexeme::Blank(2 + text::run_by_blocks(Class::InLine, &bs[2..]))
 }
 
-// How many bytes there are to the end of the next */; 0 where there is none.
+// How many bytes there are to the end of the next */; 0 where there is none. From a star that closes nothing it goes on to
+// the next one.
 fn to_close(bs: &[u8]) -> usize
     ensures { λ r. ⌜ r ≡ to-close (now (bs .entry)) ⌝ }
 {
@@ -26,6 +27,7 @@ fn to_close(bs: &[u8]) -> usize
             }
         }
         n += 1;
+        n += text::run_by_blocks(Class::Starless, &bs[n..]);
     }
     0
 }

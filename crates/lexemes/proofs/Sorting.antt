@@ -1,12 +1,14 @@
 -- The lexeme at the front by its first byte, and its second where that one leaves a choice.
 -- Each rewrites the definition's tests by what is known of the two bytes. Assumes nothing.
-use mathlib.Core.Bool.{true, false}
+use mathlib.Core.Bool.{Bool, true, false, false≢true}
 use mathlib.Core.List.{List}
-use mathlib.Core.Logic.{_⊎_, inl, inr}
-use mathlib.Core.Path.{_≡_, _∙_}
+use mathlib.Core.Logic.{_⊎_, inl, inr, ⊎-elim}
+use mathlib.Core.Path.{_≡_, refl, ap, sym, _∙_}
 use Prim.Native.Char.{code}
 use Prim.Native.Nat.{ℕ, _<_}
-use borrow.Author.Tests.{ne-eqb}
+use native.Mathlib.Omega.{arith}
+use borrow.Author.Tests.{le-leb, lt-leb, leb-true, leb-false, ne-eqb}
+use lib.Dec.{leb}
 use Rattle.kinds.specs.Kinds as kinds
 use Rattle.text.specs.Blanks.{line-comment, block-comment}
 use Rattle.text.specs.Bytes.{at, run, space, letter, digit}
@@ -27,6 +29,38 @@ pub record Plain (b : ℕ) : Type 0 where
   pub no-wide : b ≡ wide → ⊥
   pub no-underscore : b ≡ underscore → ⊥
   pub no-point : b ≡ code "." → ⊥
+
+-- a letter is above white space, and is none of the bytes that decide
+letter-above : (b : ℕ) → letter b ≡ true → 32 < b
+unfolding letter
+letter-above b e = go (leb b 32) refl
+  where
+    go : (x : Bool) → leb b 32 ≡ x → 32 < b
+    go true l =
+        let h = leb-true b 32 l in
+        let none : letter b ≡ false = simp (lt-leb (code "A") b (omega arith), lt-leb (code "a") b (omega arith)) in
+        absurd (false≢true (sym none ∙ e))
+    go false l = leb-false b 32 l
+
+above-space : (b : ℕ) → 32 < b → space b ≡ false
+unfolding space
+above-space b h = simp (le-leb 9 b (omega arith), lt-leb b 13 (omega arith), ne-eqb b 32 (omega arith))
+
+pub letter-plain : {b : ℕ} → letter b ≡ true → (b ≡ wide → ⊥) → Plain b
+unfolding letter
+letter-plain {b} e n = record {
+  no-space = above-space b (letter-above b e);
+  no-slash = λ q. false≢true (ap letter (sym q) ∙ e);
+  no-quote = λ q. ⊎-elim (λ p. false≢true (ap letter (sym p) ∙ e)) (λ p. false≢true (ap letter (sym p) ∙ e)) q;
+  no-wide = n;
+  no-underscore = λ q. false≢true (ap letter (sym q) ∙ e);
+  no-point = λ q. false≢true (ap letter (sym q) ∙ e);
+}
+
+-- where no letter stands, no L does
+pub no-letter-wide : {b : ℕ} → letter b ≡ false → b ≡ wide → ⊥
+unfolding letter
+no-letter-wide e q = false≢true (sym e ∙ ap letter q)
 
 module _ (bs : List ℕ) where
   pub lexeme-space : space (at bs 0) ≡ true → Blank (run space bs) ≡ lexeme bs

@@ -1,9 +1,10 @@
 // The lexeme at the front of the rest of a text, sorted by its first byte and, where that does not decide, its second.
+ghost use mathlib.Core.Bool.{true};
 ghost use mathlib.Core.Path.{_≡_};
 ghost use Prim.Native.Nat.{_<_};
 ghost use lib.ListN.{length};
 ghost use Rattle.lexemes.specs.Fronts as fronts;
-ghost use Rattle.text.specs.Bytes.{at};
+ghost use Rattle.text.specs.Bytes.{at, letter};
 ghost use Rattle.text.specs.Lexemes as lexemes;
 ghost use Rattle.text.specs.Literals.{quote};
 ghost use Rattle.words.specs.Table.{table};
@@ -47,13 +48,30 @@ fn slash(bs: &[u8]) -> Lexeme
     Lexeme::Token(SLASH, 1)
 }
 
-// After an L: a wide literal where a quote comes directly, or a word.
+// A lexeme made anew: what a call has left in memory goes on in registers.
+fn again(found: Lexeme) -> Lexeme
+    ensures { λ r. ⌜ r ≡ found ⌝ }
+{
+    match found {
+        Lexeme::Blank(n) => Lexeme::Blank(n),
+        Lexeme::Token(kind, n) => Lexeme::Token(kind, n),
+        Lexeme::NoLexeme => Lexeme::NoLexeme,
+        Lexeme::Open => Lexeme::Open,
+        Lexeme::BadLiteral => Lexeme::BadLiteral,
+        Lexeme::OtherCase(kind) => Lexeme::OtherCase(kind),
+    }
+}
+
+// From a letter on: a wide literal where a quote comes directly after an L, or a word.
 fn wide_or_word(words: &[u8; 932], bs: &[u8]) -> Lexeme
-    requires { ⌜ (now words ≡ table) × (at (now bs) 0 ≡ fronts.wide) ⌝ }
+    requires { ⌜ (now words ≡ table) × (0 < length (now bs)) ⌝ }
+    requires { ⌜ letter (at (now bs) 0) ≡ true ⌝ }
     ensures { λ r. ⌜ r ≡ lexemes.lexeme (now (bs .entry)) ⌝ }
 {
-    if is_quote(text::byte_at(bs, 1)) {
-        return wide_literal(bs);
+    if bs[0] == b'L' {
+        if is_quote(text::byte_at(bs, 1)) {
+            return again(wide_literal(bs));
+        }
     }
     word(words, bs)
 }
@@ -72,31 +90,31 @@ fn underscore(bs: &[u8]) -> Lexeme
     Lexeme::NoLexeme
 }
 
-// The lexeme at the front. `words` is the table of keywords, which the caller makes once.
+// The lexeme at the front. Letters are asked for first: most lexemes are words. `words` is the table of keywords, which the
+// caller makes once.
 pub fn lexeme(words: &[u8; 932], bs: &[u8]) -> Lexeme
     requires { ⌜ (now words ≡ table) × (0 < length (now bs)) ⌝ }
     ensures { λ r. ⌜ r ≡ lexemes.lexeme (now (bs .entry)) ⌝ }
 {
     let first = bs[0];
+    if text::is_letter(first) {
+        return wide_or_word(words, bs);
+    }
     if text::is_space(first) {
         return Lexeme::Blank(text::run_of(Class::Space, bs));
     }
     match first {
         b'/' => slash(bs),
-        b'"' | b'\'' => literal(bs),
-        b'L' => wide_or_word(words, bs),
+        b'"' | b'\'' => again(literal(bs)),
         b'_' => underscore(bs),
-        b'.' => number(bs),
+        b'.' => again(number(bs)),
         _ => {
-            // Asked first: of the orders tried, this one takes the fewest instructions on the timing text.
+            // Asked before digits: of the orders tried, this one takes the fewest instructions.
             if starts_mark(first) {
                 return mark(bs);
             }
-            if text::is_letter(first) {
-                return word(words, bs);
-            }
             if text::is_digit(first) {
-                return number(bs);
+                return again(number(bs));
             }
             Lexeme::NoLexeme
         }

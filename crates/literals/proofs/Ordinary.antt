@@ -15,7 +15,7 @@ use Rattle.text.specs.Literals.{plain, escape, no-character, piece}
 use Rattle.text.specs.declared.Piece.{Piece}
 use Rattle.text.specs.declared.Piece.the-variants.{Character, Close}
 use Rattle.text.proofs.Rests.{rest}
-use Rattle.literals.specs.Ordinary.{ordinary}
+use Rattle.text.specs.Classes.{ordinary}
 use Rattle.literals.proofs.Pieces.{Reading, reading-more}
 
 -- where a byte is no backslash, no quote, and plain, the choice of a piece comes to a character of one byte

@@ -2,48 +2,14 @@
 ghost use mathlib.Core.Path.{_≡_};
 ghost use Prim.Native.Nat.{_≤_};
 ghost use lib.ListN.{length};
-ghost use Rattle.text.specs.Bytes.{at, run, member};
-ghost use Rattle.text.specs.Literals.{plain, simple, no-character, digits, zeros, numbered, above-377};
+ghost use Rattle.text.specs.Bytes.{at};
+ghost use Rattle.text.specs.Classes.{member};
+ghost use Rattle.text.specs.Literals.{simple, no-character, digits, zeros, numbered, above-377};
 ghost use Rattle.text.specs.Literals.{octal-escape, hexadecimal-escape, hexadecimal-digits, escape, piece};
 ghost use Rattle.text.specs.Literals.{character-kind, string-kind, closing, character, string, quoted, literal, wide-literal};
-ghost use Rattle.literals.specs.Ordinary.{ordinary};
 use text::Class;
 use text::Lexeme;
 use text::Piece;
-
-// A byte that stands for itself.
-fn is_plain(b: u8) -> bool
-    ensures { λ r. ⌜ r ≡ plain b ⌝ }
-{
-    match b {
-        32..=126 | 160..=255 => true,
-        _ => false,
-    }
-}
-
-// A byte that a string may hold as it is.
-fn is_ordinary(b: u8) -> bool
-    ensures { λ r. ⌜ r ≡ ordinary b ⌝ }
-{
-    match b {
-        b'\\' | b'"' => false,
-        _ => is_plain(b),
-    }
-}
-
-// How many bytes in a row a string may hold as they are.
-fn ordinary_run(bs: &[u8]) -> usize
-    ensures { λ r. ⌜ r ≡ run ordinary (now (bs .entry)) ⌝ }
-{
-    let mut n = 0;
-    while n < bs.len() {
-        if !is_ordinary(bs[n]) {
-            return n;
-        }
-        n += 1;
-    }
-    n
-}
 
 // A byte that makes an escape of two bytes with the backslash before it.
 fn is_simple(b: u8) -> bool
@@ -184,7 +150,7 @@ fn piece(wide: bool, quote: u8, bs: &[u8]) -> Piece
     if b == b'\\' {
         return escape(wide, &bs[1..]);
     }
-    if is_plain(b) {
+    if text::is_plain(b) {
         Piece::Character(1)
     } else {
         no_character(bs)
@@ -240,7 +206,7 @@ fn string(wide: bool, n: usize, bs: &[u8]) -> Lexeme
 {
     let mut i = n;
     loop {
-        i += ordinary_run(&bs[i..]);
+        i += text::run_by_windows(Class::Ordinary, &bs[i..]);
         let next = piece(wide, b'"', &bs[i..]);
         match next {
             Piece::Close => return Lexeme::Token(string_kind(wide), i + 1),

@@ -1,4 +1,5 @@
 pub mod Ranges
+pub mod Blocks
 pub mod Rests
 pub mod Runs
 pub mod Sizes

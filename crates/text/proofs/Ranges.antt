@@ -47,11 +47,3 @@ within class value lo n t b h = agreed value (class b) (every-at (λ k. agree va
 pub or-else : (a b : Bool) → T (a || b) → (T a → ⊥) → T b
 or-else true b t n = absurd (n tt)
 or-else false b t n = t
-
--- the class has one value on an interval but at one byte
-pub within-but : (but : ℕ) (class : ℕ → Bool) (value : Bool) (lo n : ℕ) →
-    T (every (λ k. eqb k but || agree value (class k)) lo n) → (b : ℕ) → (b ≡ but → ⊥) → (lo ≤ b) × (b < lo + n) → value ≡ class b
-within-but but class value lo n t b e h =
-    agreed value (class b)
-    (or-else (eqb b but) (agree value (class b)) (every-at (λ k. eqb k but || agree value (class k)) lo n t (h .0) (h .1))
-    (λ u. e (eqb→eq b but u)))

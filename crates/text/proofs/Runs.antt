@@ -25,6 +25,20 @@ run-none : (class : ℕ → Bool) (b : ℕ) (bs : List ℕ) → class b ≡ fals
 unfolding run
 run-none class b bs e = rw e
 
+-- no run where another byte stands, and a run of one where another stands next
+pub run-none-at : (class : ℕ → Bool) (bs : List ℕ) (n : ℕ) → class (at bs n) ≡ false → run class (drop n bs) ≡ 0
+unfolding run
+run-none-at class [] zero e = refl
+run-none-at class [] (suc n) e = refl
+run-none-at class (b ∷ bs) zero e = run-none class b bs e
+run-none-at class (b ∷ bs) (suc n) e = run-none-at class bs n e
+
+pub run-one-at : (class : ℕ → Bool) (bs : List ℕ) (n : ℕ) → n < length bs → class (at bs n) ≡ true → class (at bs (suc n)) ≡ false →
+    run class (drop n bs) ≡ 1
+run-one-at class [] n h e f = absurd (omega arith)
+run-one-at class (b ∷ bs) zero h e f = run-more class b bs e ∙ ap suc (run-none-at class bs 0 f)
+run-one-at class (b ∷ bs) (suc n) h e f = run-one-at class bs n (omega arith) e f
+
 -- a run is no longer than the text
 run-step : (more : Bool) {n m : ℕ} → n ≤ m → cond more (suc n) 0 ≤ suc m
 run-step true h = omega arith

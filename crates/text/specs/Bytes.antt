@@ -6,8 +6,6 @@ use Prim.Native.Char.{code}
 use Prim.Native.Nat.{ℕ, suc}
 use lib.Dec.{eqb, leb}
 use lib.ListN.{getD}
-use Rattle.text.specs.declared.Class.{Class}
-use Rattle.text.specs.declared.Class.the-variants.{Space, Digit, Octal, Hexadecimal, Wordly, InLine}
 
 -- a number from lo to hi
 abbrev pub from : ℕ → ℕ → ℕ → Bool
@@ -56,12 +54,3 @@ run class (b ∷ bs) = cond (class b) (suc (run class bs)) 0
 unfoldable pub in-line : ℕ → Bool
 unfolding line-end
 in-line b = not (line-end b)
-
--- the class that a name of the code stands for
-abbrev pub member : Class → ℕ → Bool
-member Space = space
-member Digit = digit
-member Octal = octal
-member Hexadecimal = hexadecimal
-member Wordly = wordly
-member InLine = in-line

@@ -1,6 +1,11 @@
 // The bytes of a text: what a lexeme is, one byte at a place, and the bytes of one class in a row.
+ghost use lib.Dec.{leb};
+ghost use lib.ListN.{length, drop};
 ghost use mathlib.Core.Path.{_≡_};
-ghost use Rattle.text.specs.Bytes.{at, run, space, letter, digit, octal, hexadecimal, wordly, in-line, member};
+ghost use Prim.Native.Nat.{_+_, _≤_, min};
+ghost use Rattle.text.specs.Bytes.{at, run, space, letter, digit, octal, hexadecimal, wordly, in-line};
+ghost use Rattle.text.specs.Classes.{starless, ordinary, member, block, window};
+ghost use Rattle.text.specs.Literals.{plain};
 
 // What stands at the front of the rest of a text. Lengths are in bytes.
 pub enum Lexeme {
@@ -42,15 +47,16 @@ pub enum Class {
     Wordly,
     // Any byte that ends no line.
     InLine,
+    // Any byte but a star.
+    Starless,
+    // What a string may hold as it is.
+    Ordinary,
 }
 
 pub fn is_space(b: u8) -> bool
     ensures { λ r. ⌜ r ≡ space b ⌝ }
 {
-    match b {
-        9..=13 | 32 => true,
-        _ => false,
-    }
+    ((9 <= b) & (b <= 13)) | (b == b' ')
 }
 
 pub fn is_letter(b: u8) -> bool
@@ -62,50 +68,50 @@ pub fn is_letter(b: u8) -> bool
 pub fn is_digit(b: u8) -> bool
     ensures { λ r. ⌜ r ≡ digit b ⌝ }
 {
-    match b {
-        b'0'..=b'9' => true,
-        _ => false,
-    }
+    (b'0' <= b) & (b <= b'9')
 }
 
 pub fn is_octal(b: u8) -> bool
     ensures { λ r. ⌜ r ≡ octal b ⌝ }
 {
-    match b {
-        b'0'..=b'7' => true,
-        _ => false,
-    }
+    (b'0' <= b) & (b <= b'7')
 }
 
 pub fn is_hexadecimal(b: u8) -> bool
     ensures { λ r. ⌜ r ≡ hexadecimal b ⌝ }
 {
-    match b {
-        b'0'..=b'9' | b'A'..=b'F' | b'a'..=b'f' => true,
-        _ => false,
-    }
+    is_digit(b) | (((b'A' <= b) & (b <= b'F')) | ((b'a' <= b) & (b <= b'f')))
 }
 
-// Letters, of which words mostly consist, are decided first.
 pub fn is_wordly(b: u8) -> bool
     ensures { λ r. ⌜ r ≡ wordly b ⌝ }
 {
-    if is_letter(b) {
-        return true;
-    }
-    match b {
-        b'0'..=b'9' | b'_' => true,
-        _ => false,
-    }
+    is_letter(b) | (is_digit(b) | (b == b'_'))
 }
 
 pub fn is_in_line(b: u8) -> bool
     ensures { λ r. ⌜ r ≡ in-line b ⌝ }
 {
-    match b {
-        10 | 13 => false,
-        _ => true,
-    }
+    !((b == 10) | (b == 13))
+}
+
+pub fn is_starless(b: u8) -> bool
+    ensures { λ r. ⌜ r ≡ starless b ⌝ }
+{
+    b != b'*'
+}
+
+// A byte that stands for itself in a literal.
+pub fn is_plain(b: u8) -> bool
+    ensures { λ r. ⌜ r ≡ plain b ⌝ }
+{
+    ((32 <= b) & (b <= 126)) | ((160 <= b) & (b <= 255))
+}
+
+pub fn is_ordinary(b: u8) -> bool
+    ensures { λ r. ⌜ r ≡ ordinary b ⌝ }
+{
+    (b != b'\\') & ((b != b'"') & is_plain(b))
 }
 
 // Whether a byte belongs to a class.
@@ -119,6 +125,8 @@ pub fn is_in(class: Class, b: u8) -> bool
         Class::Hexadecimal => is_hexadecimal(b),
         Class::Wordly => is_wordly(b),
         Class::InLine => is_in_line(b),
+        Class::Starless => is_starless(b),
+        Class::Ordinary => is_ordinary(b),
     }
 }
 
@@ -129,7 +137,7 @@ pub fn byte_at(text: &[u8], n: usize) -> u32
     if n < text.len() { text[n] as u32 } else { 256 }
 }
 
-// How many bytes of the class stand in a row at the front.
+// How many bytes of the class stand in a row at the front: one by one, for short runs.
 pub fn run_of(class: Class, text: &[u8]) -> usize
     ensures { λ r. ⌜ r ≡ run (member class) (now (text .entry)) ⌝ }
 {
@@ -141,4 +149,88 @@ pub fn run_of(class: Class, text: &[u8]) -> usize
         n += 1;
     }
     n
+}
+
+// The place behind the run that stands at a place.
+fn past_run(class: Class, text: &[u8], at: usize) -> usize
+    requires { ⌜ at ≤ length (now text) ⌝ }
+    ensures { λ r. ⌜ r ≡ at + run (member class) (drop at (now (text .entry))) ⌝ }
+{
+    at + run_of(class, &text[at..])
+}
+
+// The bytes of a block, which is passed whole or not at all.
+const BLOCK: usize = 8;
+
+// Whether the run goes on through the first block. Every byte is looked at, so that the compiler takes them together.
+fn fills_block(class: Class, text: &[u8]) -> bool
+    requires { ⌜ block ≤ length (now text) ⌝ }
+    ensures { λ r. ⌜ r ≡ leb block (run (member class) (now (text .entry))) ⌝ }
+{
+    let mut all = true;
+    let mut k = 0;
+    while k < BLOCK {
+        all = all & is_in(class, text[k]);
+        k += 1;
+    }
+    all
+}
+
+// The same count by blocks, for runs that are long where there are any: comments, white space.
+pub fn run_by_blocks(class: Class, text: &[u8]) -> usize
+    ensures { λ r. ⌜ r ≡ run (member class) (now (text .entry)) ⌝ }
+{
+    let mut n = 0;
+    while BLOCK <= text.len() - n {
+        if !fills_block(class, &text[n..]) {
+            break;
+        }
+        n += BLOCK;
+    }
+    past_run(class, text, n)
+}
+
+// The bytes of a window, in which the end of a run is found with no branch for each byte.
+const WINDOW: u8 = 32;
+
+// The lesser of two numbers.
+fn lesser(a: u8, b: u8) -> u8
+    ensures { λ r. ⌜ r ≡ min a b ⌝ }
+{
+    if a < b { a } else { b }
+}
+
+// Where the run ends in the first window; its size where it does not. Every byte is looked at, so that the compiler takes
+// them together.
+fn end_in_window(class: Class, text: &[u8]) -> usize
+    requires { ⌜ window ≤ length (now text) ⌝ }
+    ensures { λ r. ⌜ r ≡ min window (run (member class) (now (text .entry))) ⌝ }
+{
+    let mut end = WINDOW;
+    let mut k = 0;
+    while k < WINDOW {
+        let place = if is_in(class, text[k as usize]) {
+            WINDOW
+        } else {
+            k
+        };
+        end = lesser(place, end);
+        k += 1;
+    }
+    end as usize
+}
+
+// The same count by windows, for runs that end soon and anywhere: words, strings.
+pub fn run_by_windows(class: Class, text: &[u8]) -> usize
+    ensures { λ r. ⌜ r ≡ run (member class) (now (text .entry)) ⌝ }
+{
+    let mut n = 0;
+    while WINDOW as usize <= text.len() - n {
+        let end = end_in_window(class, &text[n..]);
+        n += end;
+        if end < WINDOW as usize {
+            return n;
+        }
+    }
+    past_run(class, text, n)
 }

@@ -2,7 +2,7 @@
 ghost use mathlib.Core.Path.{_≡_};
 ghost use Prim.Native.Nat.{_+_, _≤_, _<_, _^_};
 ghost use lib.ListN.{length, drop};
-ghost use Rattle.text.specs.Bytes.{run, space};
+ghost use Rattle.text.specs.Bytes.{at, run, space};
 ghost use Rattle.text.specs.Tokens.{tokens-of};
 ghost use Rattle.tokens.specs.Answer.{Scanned, token-reply, token-table};
 use lexemes::lexeme;
@@ -19,12 +19,29 @@ pub enum Found {
     Fault(Reply),
 }
 
-// The place behind the white space that stands at a place.
-fn past_space(text: &[u8], at: usize) -> usize
-    requires { ⌜ at ≤ length (now text) ⌝ }
-    ensures { λ r. ⌜ r ≡ at + run space (drop at (now (text .entry))) ⌝ }
+// Whether white space stands at a place.
+fn is_space_at(text: &[u8], place: usize) -> bool
+    ensures { λ r. ⌜ r ≡ space (at (now (text .entry)) place) ⌝ }
 {
-    at + text::run_of(Class::Space, &text[at..])
+    if place < text.len() {
+        text::is_space(text[place])
+    } else {
+        false
+    }
+}
+
+// The place behind the white space that stands at a place: mostly none or one byte, otherwise a row of them.
+fn past_space(text: &[u8], place: usize) -> usize
+    requires { ⌜ place ≤ length (now text) ⌝ }
+    ensures { λ r. ⌜ r ≡ place + run space (drop place (now (text .entry))) ⌝ }
+{
+    if !is_space_at(text, place) {
+        return place;
+    }
+    if !is_space_at(text, place + 1) {
+        return place + 1;
+    }
+    place + text::run_by_blocks(Class::Space, &text[place..])
 }
 
 // Reads the whole text. The records go into the table while it has room; counting goes on when it is full.
@@ -38,7 +55,7 @@ fn scan(text: &[u8], tokens: &mut [u32]) -> Found
     while at < text.len() {
         let found = lexeme(&words, &text[at..]);
         match found {
-            Lexeme::Blank(size) => at += size,
+            Lexeme::Blank(size) => at = past_space(text, at + size),
             Lexeme::Token(kind, size) => {
                 put_token(tokens, n, kind, at as u32, size as u32);
                 n += 1;

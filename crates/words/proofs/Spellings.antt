@@ -1,12 +1,12 @@
 -- Spellings compared: the same, the same but for case, or near, byte by byte.
 -- By induction on the two spellings. Assumes nothing.
-use mathlib.Core.Path.{_≡_, refl, ap, sym, _∙_}
+use mathlib.Core.Path.{_≡_, refl, ap, subst, sym, _∙_}
 use mathlib.Core.Bool.{Bool, true, false, _&&_, false≢true, and-eq-true-iff}
 use mathlib.Core.List.{List, [], _∷_}
 use Prim.Native.Nat.{ℕ, suc, _+_, _≤_, _<_}
 use native.Mathlib.Numerals.{add-one}
 use native.Mathlib.Omega.{arith}
-use borrow.Author.Tests.{eqb-true, eq-eqb, ne-eqb}
+use borrow.Author.Tests.{eqb-true, eqb-false, eq-eqb, ne-eqb}
 use lib.Dec.{eqb}
 use lib.ListN.{length, getD, drop, drop-of-length-le}
 use lib.Seq.{drop-cons}
@@ -105,6 +105,39 @@ module _ {alike : List ℕ → List ℕ → Bool} {read : ℕ → ℕ} (test : B
   pub passed-stop : {i : ℕ} → i < length w → (read (getD w i 0) ≡ read (getD v i 0) → ⊥) → Passed alike w v i → false ≡ alike w v
   passed-stop {i} h e p =
       sym (p .so-far ∙ step i h ∙ ap (λ (b : Bool). b && alike (drop (i + 1) w) (drop (i + 1) v)) (ne-eqb _ _ e))
+
+  -- four bytes tested together
+  abbrev equal : ℕ → Bool
+  equal i = eqb (read (getD w i 0)) (read (getD v i 0))
+
+  also : {i j : ℕ} (rest : Bool) → i + 1 ≡ j → i < length w → equal i && rest ≡ true → Passed alike w v i → Passed alike w v j × (rest ≡ true)
+  also {i} rest n h e p =
+      let both = and-eq-true-iff (equal i) rest .0 e in
+      (subst (λ (k : ℕ). Passed alike w v k) n (passed-more h (eqb-true _ _ (both .0)) p), both .1)
+
+  fails : {i j : ℕ} (rest : Bool) → i + 1 ≡ j → i < length w → equal i && rest ≡ false → Passed alike w v i →
+      (Passed alike w v j → rest ≡ false → false ≡ alike w v) → false ≡ alike w v
+  fails {i} {j} rest n h e p next = go (equal i) refl
+    where
+      go : (x : Bool) → equal i ≡ x → false ≡ alike w v
+      go true q =
+          next (subst (λ (k : ℕ). Passed alike w v k) n (passed-more h (eqb-true _ _ q) p)) (sym (ap (λ (b : Bool). b && rest) q) ∙ e)
+      go false q = passed-stop h (eqb-false _ _ q) p
+
+  module _ {i : ℕ} (h : i + 4 ≤ length w) (p : Passed alike w v i) where
+    pub four-more : equal i && (equal (i + 1) && (equal (i + 2) && equal (i + 3))) ≡ true → Passed alike w v (i + 4)
+    four-more e =
+        let a = also (equal (i + 1) && (equal (i + 2) && equal (i + 3))) refl (omega arith) e p in
+        let b = also {i = i + 1} {j = i + 2} (equal (i + 2) && equal (i + 3)) (omega arith) (omega arith) (a .1) (a .0) in
+        let c = also {i = i + 2} {j = i + 3} (equal (i + 3)) (omega arith) (omega arith) (b .1) (b .0) in
+        subst (λ (k : ℕ). Passed alike w v k) (omega arith) (passed-more (omega arith) (eqb-true _ _ (c .1)) (c .0))
+
+    pub four-stop : equal i && (equal (i + 1) && (equal (i + 2) && equal (i + 3))) ≡ false → false ≡ alike w v
+    four-stop e =
+        fails (equal (i + 1) && (equal (i + 2) && equal (i + 3))) refl (omega arith) e p (λ pa ea.
+        fails {i = i + 1} {j = i + 2} (equal (i + 2) && equal (i + 3)) (omega arith) (omega arith) ea pa (λ pb eb.
+        fails {i = i + 2} {j = i + 3} (equal (i + 3)) (omega arith) (omega arith) eb pb (λ pc ec.
+        passed-stop (omega arith) (eqb-false _ _ ec) pc)))
 
   -- and so does the end
   pub passed-all : {i : ℕ} → length w ≤ i → Passed alike w v i → true ≡ alike w v

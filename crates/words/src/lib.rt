@@ -129,12 +129,19 @@ fn lower(b: u8) -> u8
     }
 }
 
-// Whether a word is spelled exactly so.
+// Whether a word is spelled exactly so. Four bytes are compared at once while there are as many.
 fn is_same(w: &[u8], v: &[u8]) -> bool
     requires { ⌜ length (now w) ≡ length (now v) ⌝ }
     ensures { λ r. ⌜ r ≡ same (now (w .entry)) (now (v .entry)) ⌝ }
 {
     let mut i = 0;
+    while 4 <= w.len() - i {
+        if !((w[i] == v[i])
+            & ((w[i + 1] == v[i + 1]) & ((w[i + 2] == v[i + 2]) & (w[i + 3] == v[i + 3])))) {
+            return false;
+        }
+        i += 4;
+    }
     while i < w.len() {
         if w[i] != v[i] {
             return false;
@@ -244,7 +251,7 @@ pub fn word(words: &[u8; 932], bs: &[u8]) -> Lexeme
     requires { ⌜ now words ≡ table ⌝ }
     ensures { λ r. ⌜ r ≡ text-words.word (now (bs .entry)) ⌝ }
 {
-    let n = text::run_of(Class::Wordly, bs);
+    let n = text::run_by_windows(Class::Wordly, bs);
     sorted(words, &bs[..n])
 }
 

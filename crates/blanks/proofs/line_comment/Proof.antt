@@ -13,20 +13,20 @@ use Rattle.text.proofs.Runs.{run-within}
 use Rattle.blanks.proofs.line_comment.Statement.{statement}
 use Rattle.blanks.proofs.line_comment.Tie as tie
 
-sub-run-of : tie.Need-sub-run-of
-sub-run-of c = search needs
+sub-run-by-blocks : tie.Need-sub-run-by-blocks
+sub-run-by-blocks c = search needs
 
-part-run-of-start : tie.Need-part-run-of-start
-part-run-of-start c = search needs
+part-run-by-blocks-start : tie.Need-part-run-by-blocks-start
+part-run-by-blocks-start c = search needs
 
-part-run-of-end : tie.Need-part-run-of-end
-part-run-of-end c = search needs
+part-run-by-blocks-end : tie.Need-part-run-by-blocks-end
+part-run-by-blocks-end c = search needs
 
-run-of-requires : tie.Need-run-of-requires
-run-of-requires c κs = search needs
+run-by-blocks-requires : tie.Need-run-by-blocks-requires
+run-by-blocks-requires c κs = search needs
 
-ran : (c : tie.After-run-of) → c .run-of .result ≡ run in-line (drop 2 (c .before .before .before .args .bs .now))
-ran c = c .run-of .ensures ∙ ap (run in-line) (rest (c .before .before .before .args .bs .now) 2)
+ran : (c : tie.After-run-by-blocks) → c .run-by-blocks .result ≡ run in-line (drop 2 (c .before .before .before .args .bs .now))
+ran c = c .run-by-blocks .ensures ∙ ap (run in-line) (rest (c .before .before .before .args .bs .now) 2)
 
 add-t8 : tie.Need-add-t8
 add-t8 c =
@@ -40,4 +40,4 @@ returns c = ap (λ (n : ℕ). Blank (2 + n)) (ran c)
 pub line-comment-spec : {M : Type 1} → statement M
 line-comment-spec =
     tie.close
-    (tie.spec sub-run-of part-run-of-start part-run-of-end run-of-requires add-t8 returns)
+    (tie.spec sub-run-by-blocks part-run-by-blocks-start part-run-by-blocks-end run-by-blocks-requires add-t8 returns)

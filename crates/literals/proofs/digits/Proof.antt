@@ -5,7 +5,8 @@ use native.Mathlib.Omega.{arith}
 use borrow.Author.Needs.{needs}
 use lib.ListN.{length-take}
 use lib.Seq.{take-all}
-use Rattle.text.specs.Bytes.{run, member}
+use Rattle.text.specs.Bytes.{run}
+use Rattle.text.specs.Classes.{member}
 use Rattle.text.specs.Literals.{digits}
 use Rattle.literals.proofs.digits.Statement.{statement}
 use Rattle.literals.proofs.digits.Tie as tie

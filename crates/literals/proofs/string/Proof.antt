@@ -10,7 +10,7 @@ use Rattle.text.specs.Bytes.{run}
 use Rattle.text.specs.Literals.{string-piece}
 use Rattle.text.specs.declared.Lexeme.the-variants.{Token}
 use Rattle.text.proofs.Rests.{rest}
-use Rattle.literals.specs.Ordinary.{ordinary}
+use Rattle.text.specs.Classes.{ordinary}
 use Rattle.literals.proofs.Sizes.{character-size}
 use Rattle.literals.proofs.Pieces.{Reading, stands, reading-none, reading-more, string-by}
 use Rattle.literals.proofs.Ordinary.{reading-run}
@@ -27,28 +27,28 @@ loop-holds : tie.Need-loop-holds Inv-loop μ-loop
 loop-holds c = reading-none _ _ _ (c .before .pre)
 
 -- the place after the ordinary bytes
-abbrev place : tie.After-ordinary-run Inv-loop μ-loop → ℕ
-place c = c .before .before .loop .i + c .ordinary-run .result
+abbrev place : tie.After-run-by-windows Inv-loop μ-loop → ℕ
+place c = c .before .before .loop .i + c .run-by-windows .result
 
-passed : (c : tie.After-ordinary-run Inv-loop μ-loop) →
+passed : (c : tie.After-run-by-windows Inv-loop μ-loop) →
     let args = c .before .before .before .before .args in
     Reading (args .wide) (args .n) (args .bs .now) (place c)
 passed c =
     let loop = c .before .before in
     let bs = loop .before .before .args .bs .now in
-    reading-run _ _ _ (loop .loop .inv) (c .ordinary-run .result) (omega (arith, c .ordinary-run .ensures ∙ ap (run ordinary) (rest bs (loop .loop .i))))
+    reading-run _ _ _ (loop .loop .inv) (c .run-by-windows .result) (omega (arith, c .run-by-windows .ensures ∙ ap (run ordinary) (rest bs (loop .loop .i))))
 
-sub-ordinary-run : tie.Need-sub-ordinary-run Inv-loop μ-loop
-sub-ordinary-run c = search needs
+sub-run-by-windows : tie.Need-sub-run-by-windows Inv-loop μ-loop
+sub-run-by-windows c = search needs
 
-part-ordinary-run-start : tie.Need-part-ordinary-run-start Inv-loop μ-loop
-part-ordinary-run-start c = search needs
+part-run-by-windows-start : tie.Need-part-run-by-windows-start Inv-loop μ-loop
+part-run-by-windows-start c = search needs
 
-part-ordinary-run-end : tie.Need-part-ordinary-run-end Inv-loop μ-loop
-part-ordinary-run-end c = search needs
+part-run-by-windows-end : tie.Need-part-run-by-windows-end Inv-loop μ-loop
+part-run-by-windows-end c = search needs
 
-ordinary-run-requires : tie.Need-ordinary-run-requires Inv-loop μ-loop
-ordinary-run-requires c κs = search needs
+run-by-windows-requires : tie.Need-run-by-windows-requires Inv-loop μ-loop
+run-by-windows-requires c κs = search needs
 
 add-i : tie.Need-add-i Inv-loop μ-loop
 add-i c = omega (arith, passed c .within)
@@ -71,8 +71,8 @@ enum-told c = search needs
 string-kind-requires : tie.Need-string-kind-requires Inv-loop μ-loop
 string-kind-requires c κs = search needs
 
-add-t16 : tie.Need-add-t16 Inv-loop μ-loop
-add-t16 c = omega (arith, passed (c .before .before .before .before .before) .within)
+add-t17 : tie.Need-add-t17 Inv-loop μ-loop
+add-t17 c = omega (arith, passed (c .before .before .before .before .before) .within)
 
 returns : tie.Need-returns Inv-loop μ-loop
 unfolding string-piece
@@ -147,10 +147,10 @@ string-spec =
     Inv-loop
     μ-loop
     loop-holds
-    sub-ordinary-run
-    part-ordinary-run-start
-    part-ordinary-run-end
-    ordinary-run-requires
+    sub-run-by-windows
+    part-run-by-windows-start
+    part-run-by-windows-end
+    run-by-windows-requires
     add-i
     sub-piece
     part-piece-start
@@ -158,7 +158,7 @@ string-spec =
     piece-requires
     enum-told
     string-kind-requires
-    add-t16
+    add-t17
     returns
     enum-told-2
     returns-2

@@ -5,7 +5,7 @@ use mathlib.Core.Path.{sym, _∙_}
 use borrow.Author.Needs.{needs}
 use borrow.Author.Tests.{not-true, not-false}
 use lib.ListN.{length}
-use Rattle.text.specs.Bytes.{member}
+use Rattle.text.specs.Classes.{member}
 use Rattle.text.proofs.Runs.{Passed, passed-none, passed-more, passed-stop, passed-all}
 use Rattle.text.proofs.run_of.Statement.{statement}
 use Rattle.text.proofs.run_of.Tie as tie

@@ -50,16 +50,28 @@ blank-sized c =
     let read = c .before .before .before in
     next-sized _ _ (turn read .loop-test .taken) (turn read .before .loop .inv .1) (blank c)
 
-add-at : tie.Need-add-at Inv-loop μ-loop
-add-at c = omega (arith, blank-sized c .1)
+add-past-space : tie.Need-add-past-space Inv-loop μ-loop
+add-past-space c = omega (arith, blank-sized c .1)
+
+past-space-requires : tie.Need-past-space-requires Inv-loop μ-loop
+past-space-requires c κs =
+    let read = c .before .before .before in
+    omega (arith, blank-sized c .1, turn read .loop-test .taken)
 
 loop-less : tie.Need-loop-less Inv-loop μ-loop
-loop-less c = omega (arith, blank-sized c .0, blank-sized c .1)
+loop-less c =
+    let known = c .before in
+    omega (arith, blank-sized known .0, blank-sized known .1, c .past-space .ensures)
 
 loop-again : tie.Need-loop-again Inv-loop μ-loop
 loop-again c =
-    let read = c .before .before .before in
-    (turn read .before .loop .inv .0, reading-blank _ _ (turn read .loop-test .taken) (turn read .before .loop .inv .1) (blank c))
+    let known = c .before in
+    let read = known .before .before .before in (
+      turn read .before .loop .inv .0,
+      rw (c .past-space .ensures)
+          (reading-space _ _
+          (reading-blank _ _ (turn read .loop-test .taken) (turn read .before .loop .inv .1) (blank known))),
+    )
 
 abbrev found-token : tie.After-known-told2 Inv-loop μ-loop → Lexeme
 found-token c = Token (c .before .found2 .given .0 .0) (c .before .found2 .given .0 .1 .0)
@@ -78,11 +90,11 @@ cast-put-token-2 c = omega (arith, token-sized (c .before) .1)
 add-n : tie.Need-add-n Inv-loop μ-loop
 add-n c = omega (arith, token-sized (c .before .before .before .before) .1)
 
-add-past-space : tie.Need-add-past-space Inv-loop μ-loop
-add-past-space c = omega (arith, token-sized (c .before .before .before .before) .1)
+add-past-space-2 : tie.Need-add-past-space-2 Inv-loop μ-loop
+add-past-space-2 c = omega (arith, token-sized (c .before .before .before .before) .1)
 
-past-space-requires : tie.Need-past-space-requires Inv-loop μ-loop
-past-space-requires c κs =
+past-space-requires-2 : tie.Need-past-space-requires-2 Inv-loop μ-loop
+past-space-requires-2 c κs =
     let token = c .before .before .before .before in
     let read = token .before .before .before in
     omega (arith, token-sized token .1, turn read .loop-test .taken)
@@ -90,14 +102,14 @@ past-space-requires c κs =
 loop-less-2 : tie.Need-loop-less-2 Inv-loop μ-loop
 loop-less-2 c =
     let token = c .before .before .before .before .before in
-    omega (arith, token-sized token .0, token-sized token .1, c .past-space .ensures)
+    omega (arith, token-sized token .0, token-sized token .1, c .past-space2 .ensures)
 
 loop-again-2 : tie.Need-loop-again-2 Inv-loop μ-loop
 loop-again-2 c =
     let token = c .before .before .before .before .before in
     let read = token .before .before .before in (
       turn read .before .loop .inv .0,
-      rw (c .before .before .before .put-token .ensures, c .past-space .ensures)
+      rw (c .before .before .before .put-token .ensures, c .past-space2 .ensures)
           (reading-space _ _
           (reading-token _ _ (turn read .loop-test .taken) (turn read .before .loop .inv .1) (token-next token))),
     )
@@ -161,7 +173,8 @@ scan-spec =
     (λ c. search needs)
     (λ c κs. search needs)
     (λ c. search needs)
-    add-at
+    add-past-space
+    past-space-requires
     loop-less
     loop-again
     (λ c. search needs)
@@ -169,8 +182,8 @@ scan-spec =
     cast-put-token-2
     (λ c κs. search needs)
     add-n
-    add-past-space
-    past-space-requires
+    add-past-space-2
+    past-space-requires-2
     loop-less-2
     loop-again-2
     (λ c. search needs)

@@ -14,14 +14,14 @@ use Rattle.words.proofs.word.Tie as tie
 slice-aggregate-sorted : tie.Need-slice-aggregate-sorted
 slice-aggregate-sorted c =
     let bs = c .before .before .before .args .bs .now in
-    let n : c .before .run-of .result ≤ length bs = rw (c .before .run-of .ensures) (run-within wordly bs) in
-    sym (length-take-le (c .before .run-of .result) bs n)
+    let n : c .before .run-by-windows .result ≤ length bs = rw (c .before .run-by-windows .ensures) (run-within wordly bs) in
+    sym (length-take-le (c .before .run-by-windows .result) bs n)
 
 returns : tie.Need-returns
 unfolding word spelled
 returns c =
     let bs = c .before .before .before .before .args .bs .now in
-    c .sorted .ensures ∙ ap (λ (n : ℕ). sorted (take n bs) (length (take n bs))) (c .before .before .run-of .ensures)
+    c .sorted .ensures ∙ ap (λ (n : ℕ). sorted (take n bs) (length (take n bs))) (c .before .before .run-by-windows .ensures)
     ∙ ap (sorted (spelled bs)) (length-take-le (run wordly bs) bs (run-within wordly bs))
 
 pub word-spec : {M : Type 1} → statement M
