@@ -1,19 +1,19 @@
 -- Spellings compared: the same, the same but for case, or near, byte by byte.
 -- By induction on the two spellings. Assumes nothing.
-use mathlib.Core.Path.{_≡_, refl, ap, subst, sym, _∙_}
+use mathlib.Core.Path.{_≡_, refl, ap, sym, _∙_}
 use mathlib.Core.Bool.{Bool, true, false, _&&_, false≢true, and-eq-true-iff}
 use mathlib.Core.List.{List, [], _∷_}
 use Prim.Native.Nat.{ℕ, suc, _+_, _≤_, _<_}
 use native.Mathlib.Numerals.{add-one}
 use native.Mathlib.Omega.{arith}
-use borrow.Author.Tests.{eqb-true, eqb-false, eq-eqb, ne-eqb}
+use borrow.Author.Tests.{eqb-true, eq-eqb, ne-eqb}
 use lib.Dec.{eqb}
-use lib.ListN.{length, getD, drop, drop-of-length-le}
-use lib.Seq.{drop-cons}
+use lib.ListN.{length, getD, take, drop, drop-of-length-le}
+use lib.Seq.{drop-cons, take-add, take-all, take-take}
 use Rattle.kinds.specs.Kinds.{same}
 use Rattle.text.specs.Bytes.{at}
 use Rattle.text.specs.Words.{lower, same-but-case}
-use Rattle.words.specs.Table.{near, near-to}
+use Rattle.words.specs.Table.{four-at, near, near-to}
 
 -- what fails where a weaker test fails
 pub unless : (a b : Bool) → (a ≡ true → b ≡ true) → b ≡ false → a ≡ false
@@ -30,6 +30,11 @@ same-equal (x ∷ xs) (y ∷ ys) e =
     let a = eqb-true x y (p .0) in
     let b = same-equal xs ys (p .1) in
     cc
+
+same-reflexive : (v : List ℕ) → same v v ≡ true
+unfolding same
+same-reflexive [] = refl
+same-reflexive (x ∷ xs) = rw (eq-eqb x x refl, same-reflexive xs)
 
 case-reflexive : (v : List ℕ) → same-but-case v v ≡ true
 unfolding same-but-case
@@ -106,41 +111,52 @@ module _ {alike : List ℕ → List ℕ → Bool} {read : ℕ → ℕ} (test : B
   passed-stop {i} h e p =
       sym (p .so-far ∙ step i h ∙ ap (λ (b : Bool). b && alike (drop (i + 1) w) (drop (i + 1) v)) (ne-eqb _ _ e))
 
-  -- four bytes tested together
-  abbrev equal : ℕ → Bool
-  equal i = eqb (read (getD w i 0)) (read (getD v i 0))
-
-  also : {i j : ℕ} (rest : Bool) → i + 1 ≡ j → i < length w → equal i && rest ≡ true → Passed alike w v i → Passed alike w v j × (rest ≡ true)
-  also {i} rest n h e p =
-      let both = and-eq-true-iff (equal i) rest .0 e in
-      (subst (λ (k : ℕ). Passed alike w v k) n (passed-more h (eqb-true _ _ (both .0)) p), both .1)
-
-  fails : {i j : ℕ} (rest : Bool) → i + 1 ≡ j → i < length w → equal i && rest ≡ false → Passed alike w v i →
-      (Passed alike w v j → rest ≡ false → false ≡ alike w v) → false ≡ alike w v
-  fails {i} {j} rest n h e p next = go (equal i) refl
-    where
-      go : (x : Bool) → equal i ≡ x → false ≡ alike w v
-      go true q =
-          next (subst (λ (k : ℕ). Passed alike w v k) n (passed-more h (eqb-true _ _ q) p)) (sym (ap (λ (b : Bool). b && rest) q) ∙ e)
-      go false q = passed-stop h (eqb-false _ _ q) p
-
-  module _ {i : ℕ} (h : i + 4 ≤ length w) (p : Passed alike w v i) where
-    pub four-more : equal i && (equal (i + 1) && (equal (i + 2) && equal (i + 3))) ≡ true → Passed alike w v (i + 4)
-    four-more e =
-        let a = also (equal (i + 1) && (equal (i + 2) && equal (i + 3))) refl (omega arith) e p in
-        let b = also {i = i + 1} {j = i + 2} (equal (i + 2) && equal (i + 3)) (omega arith) (omega arith) (a .1) (a .0) in
-        let c = also {i = i + 2} {j = i + 3} (equal (i + 3)) (omega arith) (omega arith) (b .1) (b .0) in
-        subst (λ (k : ℕ). Passed alike w v k) (omega arith) (passed-more (omega arith) (eqb-true _ _ (c .1)) (c .0))
-
-    pub four-stop : equal i && (equal (i + 1) && (equal (i + 2) && equal (i + 3))) ≡ false → false ≡ alike w v
-    four-stop e =
-        fails (equal (i + 1) && (equal (i + 2) && equal (i + 3))) refl (omega arith) e p (λ pa ea.
-        fails {i = i + 1} {j = i + 2} (equal (i + 2) && equal (i + 3)) (omega arith) (omega arith) ea pa (λ pb eb.
-        fails {i = i + 2} {j = i + 3} (equal (i + 3)) (omega arith) (omega arith) eb pb (λ pc ec.
-        passed-stop (omega arith) (eqb-false _ _ ec) pc)))
-
   -- and so does the end
   pub passed-all : {i : ℕ} → length w ≤ i → Passed alike w v i → true ≡ alike w v
   passed-all {i} h p =
       let hv : length v ≤ i = omega arith in
       sym (p .so-far ∙ rw (drop-of-length-le w h, drop-of-length-le v hv) (test .none))
+
+-- the four bytes from place i on, one by one
+next-byte : (w : List ℕ) (n i j : ℕ) → i + 1 ≡ j → j ≤ length w → take (suc n) (drop i w) ≡ getD w i 0 ∷ take n (drop j w)
+next-byte w n i j e h =
+    let s : suc i ≡ j = omega arith in
+    ap (take (suc n)) (drop-cons w i 0 (omega arith)) ∙ ap (λ (k : ℕ). getD w i 0 ∷ take n (drop k w)) s
+
+pub four-bytes : (w : List ℕ) (i : ℕ) → i + 4 ≤ length w →
+    four-at i w ≡ getD w i 0 ∷ getD w (i + 1) 0 ∷ getD w (i + 2) 0 ∷ getD w (i + 3) 0 ∷ []
+four-bytes w i h =
+    rw (
+      next-byte w 3 i (i + 1) refl (omega arith),
+      next-byte w 2 (i + 1) (i + 2) (omega arith) (omega arith),
+      next-byte w 1 (i + 2) (i + 3) (omega arith) (omega arith),
+      next-byte w 0 (i + 3) (i + 4) (omega arith) h,
+    )
+
+-- truth values that follow each from the other
+each-way : (a b : Bool) → (a ≡ true → b ≡ true) → (b ≡ true → a ≡ true) → a ≡ b
+each-way true b f g = sym (f refl)
+each-way false b f g = sym (unless b false g refl)
+
+module _ (w v : List ℕ) where
+  -- spelled the same, they have the same bytes at each place
+  same-four : (i : ℕ) → same w v ≡ true → same (four-at i w) (four-at i v) ≡ true
+  same-four i e = rw (same-equal w v e) (same-reflexive (four-at i v))
+
+  -- four bytes that differ settle it
+  pub four-stop : (i : ℕ) → same (four-at i w) (four-at i v) ≡ false → false ≡ same w v
+  four-stop i e = sym (unless (same w v) (same (four-at i w) (four-at i v)) (same-four i) e)
+
+  -- the first i bytes are the same, and four more
+  pub four-more : (i : ℕ) → take i w ≡ take i v → same (four-at i w) (four-at i v) ≡ true → take (i + 4) w ≡ take (i + 4) v
+  four-more i e f = rw (take-add i 4 w, take-add i 4 v, e, same-equal (four-at i w) (four-at i v) f)
+
+  -- where at most the last four bytes are left, these settle it, though some of them were passed
+  pub four-last : (k i : ℕ) → length w ≡ length v → k + 4 ≡ length w → k ≤ i → take i w ≡ take i v → same (four-at k w) (four-at k v) ≡ same w v
+  four-last k i l m h e = each-way _ _ whole (same-four k)
+    where
+      whole : same (four-at k w) (four-at k v) ≡ true → same w v ≡ true
+      whole f =
+          let passed : take k w ≡ take k v = sym (take-take k i w h) ∙ ap (take k) e ∙ take-take k i v h in
+          let equal : w ≡ v = sym (take-all (k + 4) w (omega arith)) ∙ four-more k passed f ∙ take-all (k + 4) v (omega arith) in
+          rw equal (same-reflexive v)

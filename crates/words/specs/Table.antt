@@ -7,7 +7,7 @@ use Prim.Native.Char.{code}
 use Prim.Native.Nat.{ℕ, zero, suc, _+_, _-_, _≤_, _<_}
 use Prim.Native.String.{String}
 use lib.Dec.{eqb, ltb}
-use lib.ListN.{length, getD, replicate}
+use lib.ListN.{length, getD, take, drop, replicate}
 use Rattle.kinds.specs.Kinds.{bytes, keywords, same}
 use Rattle.text.specs.Bytes.{at}
 use Rattle.text.specs.Words.{lower, same-but-case}
@@ -72,6 +72,10 @@ before [] [] = false
 before [] (y ∷ ys) = true
 before (x ∷ xs) [] = false
 before (x ∷ xs) (y ∷ ys) = ltb x y || (eqb x y && before xs ys)
+
+-- the four bytes of a spelling from place i on
+abbrev pub four-at : ℕ → List ℕ → List ℕ
+four-at i w = take 4 (drop i w)
 
 -- how a word stands to a spelling
 unfoldable pub likeness : List ℕ → List ℕ → Likeness

@@ -1,11 +1,11 @@
 // Words: identifiers, keywords, and keywords in another case.
 ghost use mathlib.Core.Bool.{true};
 ghost use mathlib.Core.Path.{_≡_};
-ghost use Prim.Native.Nat.{suc, _+_, _<_};
+ghost use Prim.Native.Nat.{suc, _+_, _≤_, _<_};
 ghost use lib.ListN.{length};
 ghost use Rattle.kinds.specs.Kinds.{same};
 ghost use Rattle.text.specs.Words as text-words;
-ghost use Rattle.words.specs.Table.{table, likeness, spelling, First, near-to};
+ghost use Rattle.words.specs.Table.{table, four-at, likeness, spelling, First, near-to};
 use text::Class;
 use text::Lexeme;
 
@@ -129,19 +129,23 @@ fn lower(b: u8) -> u8
     }
 }
 
-// Whether a word is spelled exactly so. Four bytes are compared at once while there are as many.
-fn is_same(w: &[u8], v: &[u8]) -> bool
+// The bytes of a spelling that are compared at once.
+const AT_ONCE: usize = 4;
+
+// Whether the four bytes from a place on are the same.
+fn are_four_same(w: &[u8], v: &[u8], i: usize) -> bool
+    requires { ⌜ (length (now w) ≡ length (now v)) × (i + 4 ≤ length (now w)) ⌝ }
+    ensures { λ r. ⌜ r ≡ same (four-at i (now (w .entry))) (four-at i (now (v .entry))) ⌝ }
+{
+    (w[i] == v[i]) & ((w[i + 1] == v[i + 1]) & ((w[i + 2] == v[i + 2]) & (w[i + 3] == v[i + 3])))
+}
+
+// Whether a word is spelled exactly so, byte by byte: for words of fewer bytes than are compared at once.
+fn is_same_by_bytes(w: &[u8], v: &[u8]) -> bool
     requires { ⌜ length (now w) ≡ length (now v) ⌝ }
     ensures { λ r. ⌜ r ≡ same (now (w .entry)) (now (v .entry)) ⌝ }
 {
     let mut i = 0;
-    while 4 <= w.len() - i {
-        if !((w[i] == v[i])
-            & ((w[i + 1] == v[i + 1]) & ((w[i + 2] == v[i + 2]) & (w[i + 3] == v[i + 3])))) {
-            return false;
-        }
-        i += 4;
-    }
     while i < w.len() {
         if w[i] != v[i] {
             return false;
@@ -149,6 +153,26 @@ fn is_same(w: &[u8], v: &[u8]) -> bool
         i += 1;
     }
     true
+}
+
+// Whether a word is spelled exactly so. The last comparison may look at bytes again, so that no single ones are left.
+fn is_same(w: &[u8], v: &[u8]) -> bool
+    requires { ⌜ length (now w) ≡ length (now v) ⌝ }
+    ensures { λ r. ⌜ r ≡ same (now (w .entry)) (now (v .entry)) ⌝ }
+{
+    let n = w.len();
+    if n < AT_ONCE {
+        return is_same_by_bytes(w, v);
+    }
+    let last = n - AT_ONCE;
+    let mut i = 0;
+    while i < last {
+        if !are_four_same(w, v, i) {
+            return false;
+        }
+        i += AT_ONCE;
+    }
+    are_four_same(w, v, last)
 }
 
 // Whether a word is spelled so, the case of letters aside.

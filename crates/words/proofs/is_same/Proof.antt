@@ -1,57 +1,42 @@
--- `words::is_same` meets its contract. The loops' invariant: the bytes passed are the same.
--- Four bytes, then one by one: the same keep it, one that differs settles the comparison, and so does the end. Assumes nothing.
+-- `words::is_same` meets its contract. The loop's invariant: the bytes passed are the same.
+-- Four more keep it, four that differ settle the comparison, and so do the last four. Assumes nothing.
+use mathlib.Core.Path.{_≡_, refl, sym, _∙_}
 use Prim.Native.Nat.{_-_}
 use native.Mathlib.Omega.{arith}
 use borrow.Author.Needs.{needs}
 use borrow.Author.Tests.{not-true, not-false}
-use lib.ListN.{length}
-use Rattle.kinds.specs.Kinds.{same}
-use Rattle.words.proofs.Spellings.{Passed, same-bytewise, passed-none, passed-more, passed-stop, passed-all, four-more, four-stop}
+use lib.ListN.{length, take}
+use Rattle.words.proofs.Spellings.{four-more, four-stop, four-last}
 use Rattle.words.proofs.is_same.Statement.{statement}
 use Rattle.words.proofs.is_same.Tie as tie
 
 abbrev Inv-loop : tie.InvT-loop
-Inv-loop w v i₀ i = Passed same w v i
+Inv-loop w v n last i₀ i = take i w ≡ take i v
 
 abbrev μ-loop : tie.MeasureT-loop
-μ-loop w v i₀ i = length w - i
+μ-loop w v n last i₀ i = last - i
 
-abbrev Inv-loop2 : tie.InvT-loop2
-Inv-loop2 w v i₀ i = Passed same w v i
+returns : tie.Need-returns Inv-loop μ-loop
+returns c = c .is-same-by-bytes .ensures
 
-abbrev μ-loop2 : tie.MeasureT-loop2
-μ-loop2 w v i₀ i = length w - i
-
-loop-holds : tie.Need-loop-holds Inv-loop μ-loop Inv-loop2 μ-loop2
-loop-holds c = passed-none same-bytewise _ _ (c .pre)
-
-returns : tie.Need-returns Inv-loop μ-loop Inv-loop2 μ-loop2
-returns c =
-    let turn = c .before .before .before .before .before .before .before .before .before in
-    four-stop same-bytewise _ _ (turn .before .before .pre) (omega (arith, turn .loop-test .taken)) (turn .before .loop .inv)
-    (not-true _ (c .if1 .taken))
-
-loop-again : tie.Need-loop-again Inv-loop μ-loop Inv-loop2 μ-loop2
-loop-again c =
-    let turn = c .before .before .before .before .before .before .before .before .before in
-    four-more same-bytewise _ _ (turn .before .before .pre) (omega (arith, turn .loop-test .taken)) (turn .before .loop .inv)
-    (not-false _ (c .if1 .left))
-
-returns-2 : tie.Need-returns-2 Inv-loop μ-loop Inv-loop2 μ-loop2
+returns-2 : tie.Need-returns-2 Inv-loop μ-loop
 returns-2 c =
-    passed-stop same-bytewise _ _ (c .before .before .before .before .before .before .before .pre) (c .before .before .before .loop2-test .taken)
-    (c .if2 .taken)
-    (c .before .before .before .before .loop2 .inv)
+    let turn = c .before .before .before in
+    four-stop _ _ (turn .loop .i) (sym (c .before .are-four-same .ensures) ∙ not-true _ (c .if2 .taken))
 
-loop2-again : tie.Need-loop2-again Inv-loop μ-loop Inv-loop2 μ-loop2
-loop2-again c =
-    passed-more same-bytewise _ _ (c .before .before .before .before .before .before .before .pre) (c .before .before .before .loop2-test .taken)
-    (c .if2 .left)
-    (c .before .before .before .before .loop2 .inv)
+loop-again : tie.Need-loop-again Inv-loop μ-loop
+loop-again c =
+    let turn = c .before .before .before in
+    let args = turn .before .before .before .before .args in
+    four-more (args .w .now) (args .v .now) (turn .loop .i) (turn .loop .inv) (sym (c .before .are-four-same .ensures) ∙ not-false _ (c .if2 .left))
 
-returns-3 : tie.Need-returns-3 Inv-loop μ-loop Inv-loop2 μ-loop2
+returns-3 : tie.Need-returns-3 Inv-loop μ-loop
 returns-3 c =
-    passed-all same-bytewise _ _ (c .before .before .before .before .pre) (c .loop2-test .left) (c .before .loop2 .inv)
+    let ended = c .before .before in
+    let start = ended .before .before .before .before in
+    let w = start .args .w .now in
+    c .are-four-same2 .ensures
+    ∙ four-last w (start .args .v .now) (length w - 4) (ended .loop .i) (start .pre) (omega arith) (c .before .loop-test .left) (ended .loop .inv)
 
 pub is-same-spec : {M : Type 1} → statement M
 is-same-spec =
@@ -59,33 +44,13 @@ is-same-spec =
     (tie.spec
     Inv-loop
     μ-loop
-    Inv-loop2
-    μ-loop2
-    loop-holds
-    (λ c. c .loop .inv .within)
-    (λ c. search needs)
-    (λ c. search needs)
-    (λ c. search needs)
-    (λ c. search needs)
-    (λ c. search needs)
-    (λ c. search needs)
-    (λ c. search needs)
-    (λ c. search needs)
-    (λ c. search needs)
-    (λ c. search needs)
-    (λ c. search needs)
-    (λ c. search needs)
-    (λ c. search needs)
-    (λ c. search needs)
+    (λ c κs. search needs)
     returns
-    (λ c. search needs)
-    (λ c. search needs)
-    loop-again
-    (λ c. c .before .loop .inv)
-    (λ c. search needs)
-    (λ c. search needs)
+    (λ c. refl)
+    (λ c κs. search needs)
     returns-2
     (λ c. search needs)
     (λ c. search needs)
-    loop2-again
+    loop-again
+    (λ c κs. search needs)
     returns-3)
