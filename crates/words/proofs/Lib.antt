@@ -1,4 +1,5 @@
 pub mod Spellings
+pub mod Letters
 pub mod Rules
 pub mod Search
 pub mod Sizes

@@ -12,7 +12,8 @@ use Rattle.kinds.specs.Kinds.{bytes, keywords, same}
 use Rattle.text.specs.Bytes.{at, from}
 use Rattle.text.specs.Words.{lower, same-but-case}
 use Rattle.text.proofs.Ranges.{agree, agreed, and-left, and-right, every, every-at, or-else, within}
-use Rattle.words.specs.Table.{before, count, near, near-to, table, spelling, First}
+use Rattle.words.specs.Table.{before, count, near, near-to, place-of, table, spelling, First}
+use Rattle.words.proofs.Letters.{from-holds}
 use Rattle.words.proofs.Spellings.{unless, same-equal, near-length, near-letter}
 
 pub table-length : length table ≡ 932
@@ -53,14 +54,9 @@ bounded letter n = from 97 122 letter && from 2 11 n
 
 bounded-holds : (letter n : ℕ) → T (bounded letter n) → Bounded letter n
 bounded-holds letter n t =
-    let l = and-left (from 97 122 letter) (from 2 11 n) t in
-    let m = and-right (from 97 122 letter) (from 2 11 n) t in
-    record {
-      a-on = leb→le 97 letter (and-left (leb 97 letter) (leb letter 122) l);
-      to-z = leb→le letter 122 (and-right (leb 97 letter) (leb letter 122) l);
-      two-on = leb→le 2 n (and-left (leb 2 n) (leb n 11) m);
-      to-eleven = leb→le n 11 (and-right (leb 2 n) (leb n 11) m);
-    }
+    let l = from-holds 97 122 letter (and-left (from 97 122 letter) (from 2 11 n) t) in
+    let m = from-holds 2 11 n (and-right (from 97 122 letter) (from 2 11 n) t) in
+    record { a-on = l .0; to-z = l .1; two-on = m .0; to-eleven = m .1 }
 
 abbrev bound-right : ℕ → Bool
 bound-right i = bounded (lower (at (spelling i) 0)) (length (spelling i))
@@ -106,8 +102,8 @@ pub next-at : {i : ℕ} → i < 48 → First (near-to (spelling i)) (suc i) (get
 next-at {i} h = first-holds _ _ _ (every-at next-right 0 48 nexts-right {k = i} (omega arith) h)
 
 -- the index holds the first row for a letter and a length
-abbrev pub place : ℕ → ℕ → ℕ
-place letter n = 672 + ((letter - 97) * 10 + (n - 2))
+abbrev place : ℕ → ℕ → ℕ
+place letter n = 672 + (place-of letter * 10 + (n - 2))
 
 abbrev entry-right : ℕ → ℕ → Bool
 entry-right letter n = first (near letter n) 0 (getD table (place letter n) 0)

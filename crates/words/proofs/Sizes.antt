@@ -15,7 +15,7 @@ use Rattle.text.proofs.Runs.{run-within}
 use Rattle.text.proofs.Sizes.{Sized}
 
 -- where a letter stands, a run has begun
-begun : (bs : List ℕ) → letter (at bs 0) ≡ true → 0 < run wordly bs
+pub begun : (bs : List ℕ) → letter (at bs 0) ≡ true → 0 < run wordly bs
 unfolding run wordly letter
 begun [] e = absurd (false≢true e)
 begun (b ∷ bs) e = rw e (omega arith)

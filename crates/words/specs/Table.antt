@@ -61,6 +61,10 @@ unfoldable pub table : List ℕ
 unfolding rows by-letter keywords
 table = rows 0 keywords ++ by-letter 26 (code "a")
 
+-- the place in the alphabet, from 0 on, of a letter in lower case
+abbrev pub place-of : ℕ → ℕ
+place-of letter = letter - code "a"
+
 -- the spelling of row i
 unfoldable pub spelling : ℕ → List ℕ
 unfolding bytes keywords

@@ -4,8 +4,9 @@ ghost use mathlib.Core.Path.{_≡_};
 ghost use Prim.Native.Nat.{suc, _+_, _≤_, _<_};
 ghost use lib.ListN.{length};
 ghost use Rattle.kinds.specs.Kinds.{same};
+ghost use Rattle.text.specs.Bytes.{at, letter};
 ghost use Rattle.text.specs.Words as text-words;
-ghost use Rattle.words.specs.Table.{table, four-at, likeness, spelling, First, near-to};
+ghost use Rattle.words.specs.Table.{table, place-of, four-at, likeness, spelling, First, near-to};
 use text::Class;
 use text::Lexeme;
 
@@ -23,6 +24,15 @@ const NEXT: usize = 13;
 
 // Where the index starts.
 const INDEX: usize = 672;
+
+// The bytes of the shortest keyword.
+const SHORTEST: usize = 2;
+
+// The bytes of the longest keyword.
+const LONGEST: usize = 11;
+
+// How many lengths these are: the entries of a line of the index.
+const LENGTHS: usize = 10;
 
 // The keywords in byte order, a row each: the spelling in 12 bytes, the kind, and the next row with the same length and,
 // case aside, the same first letter. Then the index: for each letter, a line each, and each length from 2 to 11 the
@@ -204,26 +214,30 @@ fn likeness_of(w: &[u8], v: &[u8]) -> Likeness
     Likeness::Different
 }
 
+// The bits of a letter that are its place in the alphabet, from 1 on, in either case.
+const PLACE_BITS: u8 = 31;
+
+// A letter's place in the alphabet, from 0 on.
+fn place_of(b: u8) -> usize
+    requires { ⌜ letter b ≡ true ⌝ }
+    ensures { λ r. ⌜ r ≡ place-of (text-words.lower b) ⌝ }
+{
+    ((b & PLACE_BITS) - 1) as usize
+}
+
 // The first row with the length and, case aside, the first letter of a word.
 fn first_near(words: &[u8; 932], w: &[u8]) -> usize
-    requires { ⌜ now words ≡ table ⌝ }
+    requires { ⌜ (now words ≡ table) × (letter (at (now w) 0) ≡ true) ⌝ }
     ensures { λ r. ⌜ First (near-to (now (w .entry))) 0 r ⌝ }
 {
     let n = w.len();
-    if n < 2 {
+    if n < SHORTEST {
         return ROWS;
     }
-    if 11 < n {
+    if LONGEST < n {
         return ROWS;
     }
-    let letter = lower(w[0]);
-    if letter < b'a' {
-        return ROWS;
-    }
-    if b'z' < letter {
-        return ROWS;
-    }
-    words[INDEX + ((letter - b'a') as usize * 10 + (n - 2))] as usize
+    words[INDEX + (place_of(w[0]) * LENGTHS + (n - SHORTEST))] as usize
 }
 
 // The next row with the length and, case aside, the first letter of this one.
@@ -256,7 +270,7 @@ fn likeness_to(words: &[u8; 932], row: usize, w: &[u8]) -> Likeness
 
 // Sorts a word, by the rows that have its length and, case aside, its first letter.
 fn sorted(words: &[u8; 932], w: &[u8]) -> Lexeme
-    requires { ⌜ now words ≡ table ⌝ }
+    requires { ⌜ (now words ≡ table) × (letter (at (now w) 0) ≡ true) ⌝ }
     ensures { λ r. ⌜ r ≡ text-words.sorted (now (w .entry)) (length (now (w .entry))) ⌝ }
 {
     let mut row = first_near(words, w);
@@ -272,7 +286,7 @@ fn sorted(words: &[u8; 932], w: &[u8]) -> Lexeme
 
 // A word, at the front of the rest of a text.
 pub fn word(words: &[u8; 932], bs: &[u8]) -> Lexeme
-    requires { ⌜ now words ≡ table ⌝ }
+    requires { ⌜ (now words ≡ table) × (letter (at (now bs) 0) ≡ true) ⌝ }
     ensures { λ r. ⌜ r ≡ text-words.word (now (bs .entry)) ⌝ }
 {
     let n = text::run_by_windows(Class::Wordly, bs);

@@ -44,5 +44,5 @@ wide-or-word-spec =
     (λ c κs. search needs)
     (λ c κs. search needs)
     returns
-    (λ c κs. c .before .before .before .pre .0 .0)
+    (λ c κs. let start = c .before .before .before in (start .pre .0 .0, start .pre .1))
     returns-2)

@@ -1,14 +1,16 @@
 -- `words::first_near` meets its contract: the index answers for each letter and length that keywords have, and no row has others.
--- The table's rules say both; past the end of a text the definition reads a byte that is no letter. Assumes nothing.
+-- The table's rules say both. Assumes nothing.
 use mathlib.Core.Path.{_≡_, ap, _∙_}
+use Prim.Native.Nat.{ℕ, _+_, _-_, _*_, _<_}
 use native.Mathlib.Omega.{arith}
 use borrow.Author.Needs.{needs}
 use lib.ListN.{length, getD}
-use Rattle.text.specs.Bytes.{at}
+use Rattle.text.specs.Bytes.{at, letter}
 use Rattle.text.specs.Words.{lower}
 use Rattle.text.proofs.Runs.{at-inside}
-use Rattle.words.specs.Table.{First, near}
-use Rattle.words.proofs.Rules.{index-at, none-near, place}
+use Rattle.words.specs.Table.{First, near-to, place-of}
+use Rattle.words.proofs.Letters.{Lettered, letter-at}
+use Rattle.words.proofs.Rules.{index-at, none-near}
 use Rattle.words.proofs.first_near.Statement.{statement}
 use Rattle.words.proofs.first_near.Tie as tie
 
@@ -18,30 +20,32 @@ returns c = none-near _ _ (λ b. omega arith)
 returns-2 : tie.Need-returns-2
 returns-2 c = none-near _ _ (λ b. omega arith)
 
--- the letter is that of the definition
-folded : (c : tie.After-lower) → c .lower .result ≡ lower (at (c .before .before .before .before .before .args .w .now) 0)
-folded c = c .lower .ensures ∙ ap lower (at-inside (c .before .before .before .before .before .args .w .now) 0 (omega arith))
+-- the first byte stands at the front, and is a letter
+front : (c : tie.After-shared-slice-known2) → let w = c .before .before .before .before .args .w .now in getD w 0 0 ≡ at w 0
+front c = at-inside (c .before .before .before .before .args .w .now) 0 (omega arith)
 
-returns-3 : tie.Need-returns-3
-returns-3 c = none-near _ _ (λ b. omega (arith, folded (c .before)))
+place-of-requires : tie.Need-place-of-requires
+place-of-requires c κs = ap letter (front c) ∙ c .before .before .before .before .pre .1
 
-returns-4 : tie.Need-returns-4
-returns-4 c = none-near _ _ (λ b. omega (arith, folded (c .before .before)))
+lettered : (c : tie.After-shared-slice-known2) → Lettered (at (c .before .before .before .before .args .w .now) 0)
+lettered c = letter-at (omega (arith, front c, c .shared-slice-known2 .given 0 .fits)) (c .before .before .before .before .pre .1)
+
+-- its place in the alphabet
+placed : (c : tie.After-place-of) → c .place-of .result ≡ place-of (lower (at (c .before .before .before .before .before .args .w .now) 0))
+placed c = c .place-of .ensures ∙ ap (λ (b : ℕ). place-of (lower b)) (front (c .before))
+
+in-alphabet : (c : tie.After-place-of) → c .place-of .result < 26
+in-alphabet c = omega (arith, placed c, lettered (c .before) .a-to-z .1)
 
 -- what the index says
 found : (c : tie.After-result) →
-    let letter = c .before .before .before .lower .result in
-    let n = length (c .before .before .before .before .before .before .before .before .args .w .now) in
-    First (near letter n) 0 (getD (c .before .before .before .before .before .before .before .before .args .words .now) (place letter n) 0)
+    let args = c .before .before .before .before .before .before .args in
+    let w = args .w .now in
+    First (near-to w) 0 (getD (args .words .now) (672 + (c .before .place-of .result * 10 + (length w - 2))) 0)
 found c =
-    rw (c .before .before .before .before .before .before .before .before .pre)
-    (index-at (record { a-on = omega arith; to-z = omega arith; two-on = omega arith; to-eleven = omega arith }))
-
-cast-result-2 : tie.Need-cast-result-2
-cast-result-2 c = omega (arith, found c .in-table)
-
-returns-5 : tie.Need-returns-5
-returns-5 c = rw (← folded (c .before .before .before)) (found c)
+    let read = c .before .before in
+    rw (read .before .before .before .before .pre .0, placed (c .before))
+    (index-at (record { a-on = lettered read .a-to-z .0; to-z = lettered read .a-to-z .1; two-on = omega arith; to-eleven = omega arith }))
 
 pub first-near-spec : {M : Type 1} → statement M
 first-near-spec =
@@ -50,13 +54,10 @@ first-near-spec =
     returns
     returns-2
     (λ c. search needs)
-    (λ c κs. search needs)
-    returns-3
-    returns-4
-    (λ c. search needs)
-    (λ c. search needs)
-    (λ c. search needs)
-    (λ c. search needs)
-    (λ c. search needs)
-    cast-result-2
-    returns-5)
+    place-of-requires
+    (λ c. omega (arith, in-alphabet c))
+    (λ c. omega (arith, in-alphabet c))
+    (λ c. omega (arith, in-alphabet c))
+    (λ c. omega (arith, in-alphabet c))
+    (λ c. omega (arith, found c .in-table))
+    found)

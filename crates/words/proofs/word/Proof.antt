@@ -1,13 +1,14 @@
 -- `words::word` meets its contract: the run at the front, sorted.
--- A run is no longer than the text, so the part that is lent has its length. Assumes nothing.
+-- A run is no longer than the text, so the part that is lent has its length; a letter begins one. Assumes nothing.
 use mathlib.Core.Path.{ap, sym, _∙_}
-use Prim.Native.Nat.{ℕ, _≤_}
+use Prim.Native.Nat.{ℕ, _≤_, _<_}
 use borrow.Author.Needs.{needs}
 use lib.ListN.{length, take}
-use lib.Seq.{length-take-le}
-use Rattle.text.specs.Bytes.{run, wordly}
+use lib.Seq.{length-take-le, getD-take}
+use Rattle.text.specs.Bytes.{run, letter, wordly}
 use Rattle.text.specs.Words.{spelled, sorted, word}
 use Rattle.text.proofs.Runs.{run-within}
+use Rattle.words.proofs.Sizes.{begun}
 use Rattle.words.proofs.word.Statement.{statement}
 use Rattle.words.proofs.word.Tie as tie
 
@@ -17,6 +18,14 @@ slice-aggregate-sorted c =
     let n : c .before .run-by-windows .result ≤ length bs = rw (c .before .run-by-windows .ensures) (run-within wordly bs) in
     sym (length-take-le (c .before .run-by-windows .result) bs n)
 
+-- the word starts with the text's first byte
+sorted-requires : tie.Need-sorted-requires
+sorted-requires c κs =
+    let start = c .before .before .before in
+    let bs = start .args .bs .now in
+    let n : 0 < c .before .run-by-windows .result = rw (c .before .run-by-windows .ensures) (begun bs (start .pre .1)) in
+    (start .pre .0, ap letter (getD-take (c .before .run-by-windows .result) bs 0 256 n) ∙ start .pre .1)
+
 returns : tie.Need-returns
 unfolding word spelled
 returns c =
@@ -25,4 +34,4 @@ returns c =
     ∙ ap (sorted (spelled bs)) (length-take-le (run wordly bs) bs (run-within wordly bs))
 
 pub word-spec : {M : Type 1} → statement M
-word-spec = tie.close (tie.spec (λ c κs. search needs) slice-aggregate-sorted (λ c κs. search needs) returns)
+word-spec = tie.close (tie.spec (λ c κs. search needs) slice-aggregate-sorted sorted-requires returns)
