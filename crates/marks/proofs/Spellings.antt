@@ -4,8 +4,7 @@ use mathlib.Core.Path.{_≡_, refl, sym, _∙_}
 use mathlib.Core.Bool.{Bool, true, false, _&&_, _||_}
 use mathlib.Core.List.{List, [], _∷_}
 use Prim.Native.Char.{code}
-use Prim.Native.Nat.{ℕ, _<_}
-use native.Mathlib.Omega.{arith}
+use Prim.Native.Nat.{ℕ, _+_, _≤_, _<_}
 use lib.Dec.{T, eqb, eqb→eq}
 use borrow.Author.Tests.{eqb-true}
 use mir.Val.{hasKey}
@@ -21,12 +20,12 @@ no-key : (keys : List ℕ) (b : ℕ) → NoneOf keys b → T (hasKey keys b) →
 no-key [] b r t = t
 no-key (k ∷ ks) b r t = no-key ks b (r .0) (or-else (eqb k b) (hasKey ks b) t (λ u. r .1 (sym (eqb→eq k b u))))
 
--- a byte apart from the keys has no value, where each of the 256 bytes is a key or has none
-pub apart : (value : ℕ → ℕ) (keys : List ℕ) → T (every (λ b. hasKey keys b || eqb (value b) 0) 0 256) →
-    {b : ℕ} → b < 256 → NoneOf keys b → 0 ≡ value b
-apart value keys t {b} h r =
+-- a byte apart from the keys has no value, where each of n bytes from lo on is a key or has none
+pub apart : (value : ℕ → ℕ) (keys : List ℕ) (lo n : ℕ) → T (every (λ b. hasKey keys b || eqb (value b) 0) lo n) →
+    {b : ℕ} → (lo ≤ b) × (b < lo + n) → NoneOf keys b → 0 ≡ value b
+apart value keys lo n t {b} h r =
     sym (eqb→eq (value b) 0
-    (or-else (hasKey keys b) (eqb (value b) 0) (every-at (λ b. hasKey keys b || eqb (value b) 0) 0 256 t (omega arith) h) (no-key keys b r)))
+    (or-else (hasKey keys b) (eqb (value b) 0) (every-at (λ b. hasKey keys b || eqb (value b) 0) lo n t (h .0) (h .1)) (no-key keys b r)))
 
 pub and-false : (a : Bool) → a && false ≡ false
 and-false true = refl

@@ -32,14 +32,17 @@ pub no-other : (class : ℕ → Bool) → T (every (λ b. not (starts-mark b && 
     {b : ℕ} → b < 256 → starts-mark b ≡ true → class b ≡ false
 no-other class t {b} h = not-both (starts-mark b) (class b) (every-at (λ b. not (starts-mark b && class b)) 0 256 t (omega arith) h)
 
--- a byte that starts no mark is none that does
-no-start : (k x : ℕ) → starts-mark k ≡ true → starts-mark x ≡ false → eqb x k ≡ false
-no-start k x e f = ne-eqb x k (λ h. true≢false (sym e ∙ ap starts-mark (sym h) ∙ f))
+-- a byte outside a class is none inside it
+outside : (class : ℕ → Bool) (k x : ℕ) → class k ≡ true → class x ≡ false → eqb x k ≡ false
+outside class k x e f = ne-eqb x k (λ h. true≢false (sym e ∙ ap class (sym h) ∙ f))
 
-no-two : (x y : ℕ) → starts-mark x ≡ false → kinds.mark (x ∷ y ∷ []) ≡ 0
+-- outside a class that has the three bytes which double, no mark of two bytes starts
+pub no-two : (class : ℕ → Bool) (x y : ℕ) → class (code ":") ≡ true → class (code "<") ≡ true → class (code ">") ≡ true →
+    class x ≡ false → kinds.mark (x ∷ y ∷ []) ≡ 0
 unfolding kinds.mark
-no-two x y e = simp (and-false, no-start (code ":") x refl e, no-start (code ">") x refl e, no-start (code "<") x refl e)
+no-two class x y colon less greater e =
+    simp (and-false, outside class (code ":") x colon e, outside class (code "<") x less e, outside class (code ">") x greater e)
 
 pub no-mark : (bs : List ℕ) → starts-mark (at bs 0) ≡ false → NoLexeme ≡ mark bs
-unfolding mark
-no-mark bs e = sym (rw (no-two (at bs 0) (at bs 1) e, e))
+unfolding mark kinds.mark
+no-mark bs e = sym (rw (no-two starts-mark (at bs 0) (at bs 1) refl refl refl e, e))

@@ -1,20 +1,32 @@
 -- `marks::one_byte` meets its contract: each arm names a byte whose kind computes, and no byte apart from these has one.
--- The last arm is one test computed at every byte. Assumes nothing.
+-- The last arm of each match is one test computed at every byte of its range. Assumes nothing.
 use native.Mathlib.Omega.{arith}
 use Prim.Native.Nat.{ℕ}
-use mathlib.Core.List.{List, [], _∷_}
+use mathlib.Core.List.{[], _∷_}
 use Rattle.kinds.specs.Kinds.{bytes, same, search-from, marks, mark}
 use Rattle.marks.proofs.Spellings.{apart}
 use Rattle.marks.proofs.one_byte.Statement.{statement}
 use Rattle.marks.proofs.one_byte.Tie as tie
 
--- the marks of one byte, by falling byte
-abbrev singles : List ℕ
-singles = bytes "~}|{^][>=<;:/-,+*)(&%"
+abbrev alone : ℕ → ℕ
+alone b = mark (b ∷ [])
 
-none : tie.Need-returns-22
+-- the marks of a range by falling byte, and no others in it
+to-slash : tie.Need-returns-10
 unfolding bytes same search-from marks mark
-none c = apart (λ b. mark (b ∷ [])) singles tt (omega arith) (c .match .rest)
+to-slash c = apart alone (bytes "/-,+*)(&%") 0 48 tt (omega arith, omega arith) (c .match .rest)
+
+to-greater : tie.Need-returns-16
+unfolding bytes same search-from marks mark
+to-greater c = apart alone (bytes ">=<;:") 48 15 tt (omega arith, omega arith) (c .match2 .rest)
+
+to-caret : tie.Need-returns-20
+unfolding bytes same search-from marks mark
+to-caret c = apart alone (bytes "^][") 63 32 tt (omega arith, omega arith) (c .match3 .rest)
+
+to-end : tie.Need-returns-25
+unfolding bytes same search-from marks mark
+to-end c = apart alone (bytes "~}|{") 95 161 tt (omega arith, omega arith) (c .match4 .rest)
 
 pub one-byte-spec : {M : Type 1} → statement M
 unfolding bytes same search-from marks mark
@@ -30,16 +42,19 @@ one-byte-spec =
     (λ c. rw (c .match .keys7))
     (λ c. rw (c .match .keys8))
     (λ c. rw (c .match .keys9))
-    (λ c. rw (c .match .keys10))
-    (λ c. rw (c .match .keys11))
-    (λ c. rw (c .match .keys12))
-    (λ c. rw (c .match .keys13))
-    (λ c. rw (c .match .keys14))
-    (λ c. rw (c .match .keys15))
-    (λ c. rw (c .match .keys16))
-    (λ c. rw (c .match .keys17))
-    (λ c. rw (c .match .keys18))
-    (λ c. rw (c .match .keys19))
-    (λ c. rw (c .match .keys20))
-    (λ c. rw (c .match .keys21))
-    none)
+    to-slash
+    (λ c. rw (c .match2 .keys1))
+    (λ c. rw (c .match2 .keys2))
+    (λ c. rw (c .match2 .keys3))
+    (λ c. rw (c .match2 .keys4))
+    (λ c. rw (c .match2 .keys5))
+    to-greater
+    (λ c. rw (c .match3 .keys1))
+    (λ c. rw (c .match3 .keys2))
+    (λ c. rw (c .match3 .keys3))
+    to-caret
+    (λ c. rw (c .match4 .keys1))
+    (λ c. rw (c .match4 .keys2))
+    (λ c. rw (c .match4 .keys3))
+    (λ c. rw (c .match4 .keys4))
+    to-end)

@@ -56,7 +56,9 @@ returns-5 c = sym (ap twice (c .match .keys3)) ∙ both (c .before)
 
 returns-6 : tie.Need-returns-6
 unfolding bytes same search-from marks mark
-returns-6 c = apart twice (bytes "><:") tt (c .before .before .before .shared-slice-known .given 0 .fits) (c .match .rest) ∙ both (c .before)
+returns-6 c =
+    let byte = c .before .before .before .shared-slice-known .given 0 .fits in
+    apart twice (bytes "><:") 0 256 tt (omega arith, byte) (c .match .rest) ∙ both (c .before)
 
 pub two-bytes-spec : {M : Type 1} → statement M
 two-bytes-spec =
