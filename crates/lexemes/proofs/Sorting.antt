@@ -42,7 +42,7 @@ letter-above b e = go (leb b 32) refl
         absurd (false≢true (sym none ∙ e))
     go false l = leb-false b 32 l
 
-above-space : (b : ℕ) → 32 < b → space b ≡ false
+pub above-space : (b : ℕ) → 32 < b → space b ≡ false
 unfolding space
 above-space b h = simp (le-leb 9 b (omega arith), lt-leb b 13 (omega arith), ne-eqb b 32 (omega arith))
 

@@ -1,4 +1,5 @@
 // The lexeme at the front of the rest of a text, sorted by its first byte and, where that does not decide, its second.
+// Calls that the compiler keeps get the text as `&*bs`: lent anew, it stays in registers everywhere else.
 ghost use mathlib.Core.Bool.{true};
 ghost use mathlib.Core.Path.{_≡_};
 ghost use Prim.Native.Nat.{_<_};
@@ -70,7 +71,7 @@ fn wide_or_word(words: &[u8; 932], bs: &[u8]) -> Lexeme
 {
     if bs[0] == b'L' {
         if is_quote(text::byte_at(bs, 1)) {
-            return again(wide_literal(bs));
+            return again(wide_literal(&*bs));
         }
     }
     word(words, bs)
@@ -105,16 +106,16 @@ pub fn lexeme(words: &[u8; 932], bs: &[u8]) -> Lexeme
     }
     match first {
         b'/' => slash(bs),
-        b'"' | b'\'' => again(literal(bs)),
+        b'"' | b'\'' => again(literal(&*bs)),
         b'_' => underscore(bs),
-        b'.' => again(number(bs)),
+        b'.' => again(number(&*bs)),
         _ => {
             // Asked before digits: of the orders tried, this one takes the fewest instructions.
             if starts_mark(first) {
                 return mark(bs);
             }
             if text::is_digit(first) {
-                return again(number(bs));
+                return again(number(&*bs));
             }
             Lexeme::NoLexeme
         }

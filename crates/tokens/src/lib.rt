@@ -19,15 +19,18 @@ pub enum Found {
     Fault(Reply),
 }
 
-// Whether white space stands at a place.
+// Whether white space stands at a place. Most bytes that are asked for are above it, so these are told at once.
 fn is_space_at(text: &[u8], place: usize) -> bool
     ensures { λ r. ⌜ r ≡ space (at (now (text .entry)) place) ⌝ }
 {
     if place < text.len() {
-        text::is_space(text[place])
-    } else {
-        false
+        let b = text[place];
+        if b' ' < b {
+            return false;
+        }
+        return text::is_space(b);
     }
+    false
 }
 
 // The place behind the white space that stands at a place: mostly none or one byte, otherwise a row of them.
