@@ -130,7 +130,7 @@ module _ {ks : List ℕ} {d : ℕ} where
   -- with a record, and where the count stays at its ceiling
   pub recorded-node : {hs : List ℕ} {r start s s′ : ℕ} {w w′ : List ℕ} → T (all-recorded r hs) → view s .answer ≡ 0 →
       view s .count < ceiling → view s′ .answer ≡ 0 → view s′ .at ≡ view s .at → view s′ .count ≡ view s .count + 1 →
-      (view start .count ≤ view s .count → w′ ≡ write w (view s .count)
+      (view start .at ≤ view s .at → view start .count ≤ view s .count → w′ ≡ write w (view s .count)
       (tree-record r (view start .at) (view s .at) (view s .count + 1 - view start .count))) →
       From ks d start hs (wrap r) (s, w) (s′, w′)
   recorded-node {hs} {r} {start} {s} {s′} {w} {w′} t z low o a n e = record {
@@ -140,8 +140,9 @@ module _ {ks : List ℕ} {d : ℕ} where
         outcome = done (view s .at) (node end r f);
         run = run-wrap;
         ends = ends-done {g = node end r f} o a (λ h.
-            let le : view start .count ≤ view s .count = omega (arith, h .count-is, j) in
-            held-kept r b (view s, w) f h (view s′, w′) (recorded-over r hs f t v) low a n (rw (i, j) (e le)));
+            let le : view start .at ≤ view s .at = omega (arith, h .at-is, i) in
+            let le′ : view start .count ≤ view s .count = omega (arith, h .count-is, j) in
+            held-kept r b (view s, w) f h (view s′, w′) (recorded-over r hs f t v) low a n (rw (i, j) (e le le′)));
       };
     };
   }

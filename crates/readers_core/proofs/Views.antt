@@ -1,6 +1,6 @@
 -- A reader's state in one number: what each step of the code does to its parts.
 -- By the arithmetic of its halves. Assumes nothing.
-use Prim.Native.Nat.{ℕ, _+_, _%_, _≤_, _<_}
+use Prim.Native.Nat.{ℕ, _+_, _-_, _%_, _^_, _≤_, _<_}
 use native.Mathlib.Omega.{arith}
 use mathlib.Core.Path.{_≡_, refl, sym, _∙_, subst}
 use mathlib.Core.Bool.{Bool, true, false, not, cond}
@@ -80,3 +80,8 @@ module _ (s : ℕ) (low : view s .count < ceiling) where
 
   pub counted-count : view (s + half) .count ≡ view s .count + 1
   counted-count = omega (arith, low)
+
+  -- and the records since a start are those that the difference counts
+  pub counted-since : (start : ℕ) → view start .at ≤ view s .at → view start .count ≤ view s .count → {n : ℕ} →
+      n < 2 ^ 64 → (n + start) % 2 ^ 64 ≡ s + half → view n .count ≡ view s .count + 1 - view start .count
+  counted-since start le le′ h e = omega (arith, low, le, le′, h, e)

@@ -20,9 +20,6 @@ const BLAMED: u64 = 9223372036854775808;
 
 const TOO_DEEP: u64 = 9223372041149743104;
 
-// The count of records has its ceiling below a stop.
-const CEILING: u32 = 2147483647;
-
 // The number of the next token.
 pub fn place(s: Reading) -> u32
     ensures { λ r. ⌜ r ≡ view s .at ⌝ }
@@ -106,15 +103,19 @@ pub fn open(tokens: &[u32], s: Reading, mark: u32, depth: u32) -> Reading
     s + 1
 }
 
-// What has been read since `start` becomes one node of the rule, which is recorded.
+// What has been read since `start` becomes one node of the rule, which is recorded. The count has its ceiling below a stop.
 pub fn node(tree: &mut [u32], start: Reading, s: Reading, rule: u32) -> Reading
     ensures { λ r. ⌜ Closes rule start (s, now (tree .entry)) (r, now (tree .exit)) ⌝ }
 {
-    let n = records(s);
-    if CEILING <= n {
+    if BLAMED <= s {
         return s;
     }
-    let size = std::num::wrapping_sub_u32(n + 1, records(start));
+    let t = s + HALF;
+    if BLAMED <= t {
+        return s;
+    }
+    let n = records(s);
+    let size = records(std::num::wrapping_sub_u64(t, start));
     tables::put_node(tree, n as usize, rule, place(start), place(s), size);
-    s + HALF
+    t
 }
