@@ -83,7 +83,7 @@ elem-any (k ∷ []) x h = go (or-cases (eqb x k) false h)
 elem-any (k ∷ (l ∷ ls)) x h =
     ⊎-elim (λ u. inl (eqb→eq x k u)) (λ u. inr (elem-any (l ∷ ls) x u)) (or-cases (eqb x k) (elem x (l ∷ ls)) h)
 
-elem-cases : (x : ℕ) (xs ys : List ℕ) → T (elem x (xs ++ ys)) → T (elem x xs) ⊎ T (elem x ys)
+pub elem-cases : (x : ℕ) (xs ys : List ℕ) → T (elem x (xs ++ ys)) → T (elem x xs) ⊎ T (elem x ys)
 unfolding elem
 elem-cases x [] ys h = inr h
 elem-cases x (k ∷ xs) ys h =
@@ -91,7 +91,7 @@ elem-cases x (k ∷ xs) ys h =
     (λ u. ⊎-elim (λ v. inl (or-right (eqb x k) (elem x xs) v)) (λ v. inr v) (elem-cases x xs ys u))
     (or-cases (eqb x k) (elem x (xs ++ ys)) h)
 
-none-elem : (arms : List (List ℕ)) (x : ℕ) → NoneOf arms x → T (elem x (flat arms)) → ⊥
+pub none-elem : (arms : List (List ℕ)) (x : ℕ) → NoneOf arms x → T (elem x (flat arms)) → ⊥
 unfolding NoneOf flat elem
 none-elem [] x h u = u
 none-elem (ks ∷ arms) x h u =

@@ -2,7 +2,7 @@
 -- Assumes nothing: these are definitions.
 use Prim.Native.Nat.{ℕ}
 use mathlib.Core.Path.{_≡_}
-use mathlib.Core.List.{List, [], _∷_}
+use mathlib.Core.List.{List, [], _∷_, _++_}
 use lib.Dec.{T}
 use Rattle.prediction.specs.Plan.{Plan, token, group, call, wrap, seq, alt, skip, many}
 use Rattle.prediction.proofs.IdlChecked.{idl-table}
@@ -24,14 +24,17 @@ listed n = seq (call n) (many (further n))
 pub record ReadsNames (ks : List ℕ) (s s′ : State) : Type 0 where
   pub by-rule : (n : ℕ) → Names n → Flat ks (listed n) s s′
 
--- the kinds that (42) type_dcl and (9) export may start with
+-- the kinds that (42) type_dcl and (9) export may start with, those of identifiers and words before the rest
 abbrev pub type-dcl-starts : List ℕ
 type-dcl-starts = 31 ∷ 42 ∷ 53 ∷ 57 ∷ 58 ∷ []
 
-abbrev pub export-starts : List ℕ
-export-starts =
+abbrev pub low-export-starts : List ℕ
+low-export-starts =
     1 ∷ 17 ∷ 19 ∷ 21 ∷ 22 ∷ 23 ∷ 25 ∷ 26 ∷ 30 ∷ 31 ∷ 32 ∷ 35 ∷ 40 ∷ 42 ∷ 43 ∷ 44 ∷ 49 ∷ 51 ∷ 52 ∷ 53 ∷ 57 ∷ 58 ∷ 59 ∷
-    61 ∷ 62 ∷ 63 ∷ 69 ∷ []
+    61 ∷ 62 ∷ 63 ∷ []
+
+abbrev pub export-starts : List ℕ
+export-starts = low-export-starts ++ (69 ∷ [])
 
 -- bases, if any
 abbrev pub optional-bases : Plan

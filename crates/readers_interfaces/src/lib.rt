@@ -70,11 +70,13 @@ pub fn starts_type_dcl(kind: u32) -> bool
 pub fn starts_export(kind: u32) -> bool
     ensures { λ r. ⌜ r ≡ elem kind export-starts ⌝ }
 {
+    if kind::WSTRING < kind {
+        return kind == kind::SCOPE;
+    }
     match kind {
         kind::TYPEDEF | kind::STRUCT | kind::ENUM | kind::NATIVE => true,
         kind::UNION | kind::CONST | kind::EXCEPTION | kind::READONLY | kind::ATTRIBUTE => true,
-        kind::ONEWAY | kind::VOID | kind::STRING | kind::WSTRING | kind::IDENTIFIER | kind::SCOPE =>
-            true,
+        kind::ONEWAY | kind::VOID | kind::STRING | kind::WSTRING | kind::IDENTIFIER => true,
         kind::FLOAT
         | kind::DOUBLE
         | kind::LONG

@@ -1,53 +1,63 @@
--- What a test of a kind against a set tells of the kind, and the test from what a `match` tells.
--- By the laws of sets as lists. Assumes nothing.
-use Prim.Native.Nat.{ℕ}
+-- Tests of the kinds that a rule may start with, as choices and repetitions use them.
+-- The kinds that the code lists, arm by arm, are those of the set, by a computed test. Assumes nothing.
+use Prim.Native.Nat.{ℕ, _<_}
+use native.Mathlib.Omega.{arith}
 use mathlib.Core.Path.{_≡_, refl, sym, _∙_, subst}
-use mathlib.Core.Bool.{Bool, true, false}
+use mathlib.Core.Bool.{Bool, true, false, _&&_}
 use mathlib.Core.List.{List, [], _∷_, _++_}
-use mathlib.Core.Logic.{_⊎_, inl, inr, ⊎-elim}
-use lib.Dec.{T, eqb}
+use mathlib.Core.Logic.{⊎-elim}
+use lib.Dec.{T, eqb, leb, leb→le}
 use Rattle.grammar.specs.Sets.{elem}
-use Rattle.prediction.specs.Sets.{elem-left, elem-right, or-left, or-right, or-cases}
-use Rattle.readers_core.proofs.Choosing.{AnyOf, NoneOf, any-elem, elem-any}
+use Rattle.prediction.specs.Sets.{subset, subset-in, and-left, and-right}
+use Rattle.readers_core.proofs.Choosing.{AnyOf, NoneOf, flat, any-elem, elem-any, elem-cases, none-elem}
+use Rattle.readers_expressions.proofs.Tests.{last, past}
 
-true-by : (b : Bool) → T b → true ≡ b
-true-by true u = refl
-true-by false u = absurd u
+is-true : (b : Bool) → T b → true ≡ b
+is-true true u = refl
+is-true false u = absurd u
 
-false-by : (b : Bool) → (T b → ⊥) → false ≡ b
-false-by true u = absurd (u tt)
-false-by false u = refl
+is-false : (b : Bool) → (T b → ⊥) → false ≡ b
+is-false true u = absurd (u tt)
+is-false false u = refl
 
-elem-cases : (x : ℕ) (xs ys : List ℕ) → T (elem x (xs ++ ys)) → T (elem x xs) ⊎ T (elem x ys)
-unfolding elem
-elem-cases x [] ys h = inr h
-elem-cases x (k ∷ xs) ys h =
-    ⊎-elim (λ u. inl (or-left (eqb x k) (elem x xs) u))
-    (λ u. ⊎-elim (λ v. inl (or-right (eqb x k) (elem x xs) v)) (λ v. inr v) (elem-cases x xs ys u))
-    (or-cases (eqb x k) (elem x (xs ++ ys)) h)
+-- the kind is one of those listed; it is none of them
+pub starts : (ks ls : List ℕ) (x : ℕ) → T (subset ks ls) → AnyOf ks x → true ≡ elem x ls
+starts ks ls x u h = is-true (elem x ls) (subset-in x ks ls u (any-elem ks x h))
 
-pub in-set : (ks : List ℕ) (x : ℕ) → AnyOf ks x → true ≡ elem x ks
-in-set ks x h = true-by (elem x ks) (any-elem ks x h)
+pub starts-not : (arms : List (List ℕ)) (ls : List ℕ) (x : ℕ) → T (subset ls (flat arms)) → NoneOf arms x →
+    false ≡ elem x ls
+starts-not arms ls x u h = is-false (elem x ls) (λ v. none-elem arms x h (subset-in x ls (flat arms) u v))
 
-pub out-of-set : (ks : List ℕ) (x : ℕ) → NoneOf (ks ∷ []) x → false ≡ elem x ks
-unfolding NoneOf
-out-of-set ks x h = false-by (elem x ks) (λ u. h .1 (elem-any ks x u))
+-- it is none of those listed, so it is one of all exactly where it is one of the rest
+pub passes : (arms : List (List ℕ)) (rest all : List ℕ) (x : ℕ) {r : Bool} → NoneOf arms x → T (subset rest all) →
+    T (subset all (flat arms ++ rest)) → r ≡ elem x rest → r ≡ elem x all
+passes arms rest all x n u v e =
+    e ∙ same (elem x rest) (elem x all) (λ w. subset-in x rest all u w)
+    (λ w. ⊎-elim (λ z. absurd (none-elem arms x n z)) (λ z. z)
+    (elem-cases x (flat arms) rest (subset-in x all (flat arms ++ rest) v w)))
+  where
+    same : (a b : Bool) → (T a → T b) → (T b → T a) → a ≡ b
+    same true true f g = refl
+    same true false f g = absurd (f tt)
+    same false true f g = absurd (g tt)
+    same false false f g = refl
 
--- the same for a set in two parts
-pub in-first : (ks ls : List ℕ) (x : ℕ) → AnyOf ks x → true ≡ elem x (ks ++ ls)
-in-first ks ls x h = true-by (elem x (ks ++ ls)) (elem-left x ks ls (any-elem ks x h))
+-- it lies above all but the last
+unfoldable pub below : ℕ → List ℕ → Bool
+below n [] = true
+below n (k ∷ ks) = leb k n && below n ks
 
-pub in-second : (ks ls : List ℕ) (x : ℕ) → AnyOf ls x → true ≡ elem x (ks ++ ls)
-in-second ks ls x h = true-by (elem x (ks ++ ls)) (elem-right x ks ls (any-elem ls x h))
+pub only-last : (n : ℕ) (ks : List ℕ) (k x : ℕ) → T (below n ks) → n < x → eqb x k ≡ elem x (ks ++ (k ∷ []))
+unfolding below
+only-last n [] k x u h = last x k
+only-last n (l ∷ ks) k x u h =
+    let le = leb→le l n (and-left (leb l n) (below n ks) u) in
+    only-last n ks k x (and-right (leb l n) (below n ks) u) h ∙ past x l (ks ++ (k ∷ [])) (λ e. omega (arith, le, h, e))
 
-pub in-neither : (ks ls : List ℕ) (x : ℕ) → NoneOf (ls ∷ (ks ∷ [])) x → false ≡ elem x (ks ++ ls)
-unfolding NoneOf
-in-neither ks ls x h =
-    false-by (elem x (ks ++ ls)) (λ u. ⊎-elim (λ v. h .0 .1 (elem-any ks x v)) (λ v. h .1 (elem-any ls x v)) (elem-cases x ks ls u))
-
+-- what the answer tells
 pub is-in : (ks : List ℕ) (x : ℕ) {r : Bool} → r ≡ elem x ks → r ≡ true → AnyOf ks x
 is-in ks x e h = elem-any ks x (subst (λ (b : Bool). T b) (sym h ∙ e) tt)
 
 pub is-out : (ks : List ℕ) (x : ℕ) {r : Bool} → r ≡ elem x ks → r ≡ false → NoneOf (ks ∷ []) x
 unfolding NoneOf
-is-out ks x e h = (tt, λ a. subst (λ (b : Bool). T b) (in-set ks x a ∙ sym e ∙ h) tt)
+is-out ks x e h = (tt, λ a. subst (λ (b : Bool). T b) (is-true (elem x ks) (any-elem ks x a) ∙ sym e ∙ h) tt)

@@ -4,15 +4,13 @@ use Prim.Native.Nat.{ℕ}
 use mathlib.Core.List.{List, [], _∷_, _++_}
 use Rattle.prediction.specs.Plan.{Plan, token, call, wrap, seq, alt, many, group}
 
--- the kinds that begin a type, in two parts without neighbours, and those that begin a case
-abbrev pub type-starts-first : List ℕ
-type-starts-first = 1 ∷ 17 ∷ 19 ∷ 21 ∷ 23 ∷ 25 ∷ 30 ∷ 34 ∷ 40 ∷ 43 ∷ 50 ∷ 52 ∷ 58 ∷ 62 ∷ 69 ∷ []
-
-abbrev pub type-starts-second : List ℕ
-type-starts-second = 31 ∷ 35 ∷ 51 ∷ 53 ∷ 59 ∷ 63 ∷ []
+-- the kinds that begin a type, those of identifiers and words before the rest, and those that begin a case
+abbrev pub low-type-starts : List ℕ
+low-type-starts =
+    1 ∷ 17 ∷ 19 ∷ 21 ∷ 23 ∷ 25 ∷ 30 ∷ 31 ∷ 34 ∷ 35 ∷ 40 ∷ 43 ∷ 50 ∷ 51 ∷ 52 ∷ 53 ∷ 58 ∷ 59 ∷ 62 ∷ 63 ∷ []
 
 abbrev pub type-starts : List ℕ
-type-starts = type-starts-first ++ type-starts-second
+type-starts = low-type-starts ++ (69 ∷ [])
 
 abbrev pub case-starts : List ℕ
 case-starts = 24 ∷ 29 ∷ []

@@ -23,10 +23,13 @@ use readers_types::enum_type;
 use readers_types::simple_type_spec;
 use readers_types::switch_type_spec;
 
-// Whether a kind begins a type. Neighbours in number stand in different arms.
+// Whether a kind begins a type. Those up to the last word are told by one test of a bit; neighbours in number stand in different arms.
 pub fn starts_type(next: u32) -> bool
     ensures { λ r. ⌜ r ≡ elem next type-starts ⌝ }
 {
+    if kind::WSTRING < next {
+        return next == kind::SCOPE;
+    }
     match next {
         kind::IDENTIFIER
         | kind::OBJECT
@@ -41,8 +44,7 @@ pub fn starts_type(next: u32) -> bool
         | kind::SEQUENCE
         | kind::STRING
         | kind::UNION
-        | kind::WCHAR
-        | kind::SCOPE => true,
+        | kind::WCHAR => true,
         kind::ENUM | kind::FLOAT | kind::SHORT | kind::STRUCT | kind::UNSIGNED | kind::WSTRING =>
             true,
         _ => false,

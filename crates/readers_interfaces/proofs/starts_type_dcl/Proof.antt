@@ -3,7 +3,7 @@
 use Rattle.grammar.specs.Sets.{elem}
 use Rattle.prediction.specs.Sets.{subset}
 use Rattle.readers_core.proofs.Choosing.{AnyOf, NoneOf, flat}
-use Rattle.readers_interfaces.proofs.Starts.{starts, starts-not}
+use Rattle.readers_structs.proofs.Starts.{starts, starts-not}
 use Rattle.readers_interfaces.specs.Plans.{type-dcl-starts}
 use mathlib.Core.List.{[], _∷_}
 use Rattle.readers_interfaces.proofs.starts_type_dcl.Statement.{statement}

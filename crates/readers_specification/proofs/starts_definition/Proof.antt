@@ -3,7 +3,7 @@
 use Rattle.grammar.specs.Sets.{elem}
 use Rattle.prediction.specs.Sets.{subset}
 use Rattle.readers_core.proofs.Choosing.{AnyOf, NoneOf, flat}
-use Rattle.readers_interfaces.proofs.Starts.{passes, starts}
+use Rattle.readers_structs.proofs.Starts.{passes, starts}
 use Rattle.readers_interfaces.specs.Plans.{type-dcl-starts}
 use Rattle.readers_specification.specs.Plans.{definition-starts}
 use borrow.Author.Needs.{needs}
