@@ -190,6 +190,7 @@ pub fn interface(
     requires { ⌜ Short (now tokens) ⌝ }
     ensures { λ r. ⌜ Within (now (tokens .entry)) depth start interface-rest (s, now (tree .entry)) (r, now (tree .exit)) ⌝ }
 {
+    let tokens = &*tokens;
     let t = take(tokens, s, kind::INTERFACE);
     let u = take(tokens, t, kind::IDENTIFIER);
     let next = next_kind(tokens, u);

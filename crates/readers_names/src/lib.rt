@@ -115,6 +115,7 @@ fn unsigned_int(tokens: &[u32], tree: &mut [u32], s: Reading) -> Reading
     requires { ⌜ Short (now tokens) ⌝ }
     ensures { λ r. ⌜ Flat (now (tokens .entry)) (call 59) (s, now (tree .entry)) (r, now (tree .exit)) ⌝ }
 {
+    let tokens = &*tokens;
     let t = take(tokens, s, kind::UNSIGNED);
     behind_unsigned(&*tokens, tree, s, t)
 }
@@ -151,6 +152,7 @@ pub fn number_type(tokens: &[u32], tree: &mut [u32], s: Reading) -> Reading
     requires { ⌜ Short (now tokens) ⌝ }
     ensures { λ r. ⌜ FlatFrom (now (tokens .entry)) s nothing number-type (s, now (tree .entry)) (r, now (tree .exit)) ⌝ }
 {
+    let tokens = &*tokens;
     let next = next_kind(tokens, s);
     match next {
         kind::LONG => {
@@ -184,6 +186,7 @@ pub fn base_type_spec(tokens: &[u32], tree: &mut [u32], s: Reading) -> Reading
     requires { ⌜ Short (now tokens) ⌝ }
     ensures { λ r. ⌜ Flat (now (tokens .entry)) (call 46) (s, now (tree .entry)) (r, now (tree .exit)) ⌝ }
 {
+    let tokens = &*tokens;
     let next = next_kind(tokens, s);
     match next {
         kind::LONG | kind::FLOAT | kind::DOUBLE | kind::SHORT | kind::UNSIGNED => number_type(

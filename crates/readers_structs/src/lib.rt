@@ -296,6 +296,7 @@ pub fn type_dcl(tokens: &[u32], tree: &mut [u32], s: Reading, depth: u32) -> Rea
     requires { ⌜ Short (now tokens) ⌝ }
     ensures { λ r. ⌜ Reads (now (tokens .entry)) depth (call 42) (s, now (tree .entry)) (r, now (tree .exit)) ⌝ }
 {
+    let tokens = &*tokens;
     let next = next_kind(tokens, s);
     match next {
         kind::TYPEDEF => {
@@ -332,6 +333,7 @@ pub fn except_dcl(tokens: &[u32], tree: &mut [u32], s: Reading, depth: u32) -> R
     requires { ⌜ Short (now tokens) ⌝ }
     ensures { λ r. ⌜ Reads (now (tokens .entry)) depth (call 86) (s, now (tree .entry)) (r, now (tree .exit)) ⌝ }
 {
+    let tokens = &*tokens;
     let t = take(tokens, s, kind::EXCEPTION);
     let u = take(tokens, t, kind::IDENTIFIER);
     let v = exception_body(&*tokens, tree, u, depth);
@@ -343,6 +345,7 @@ pub fn const_dcl(tokens: &[u32], tree: &mut [u32], s: Reading, depth: u32) -> Re
     requires { ⌜ Short (now tokens) ⌝ }
     ensures { λ r. ⌜ Reads (now (tokens .entry)) depth (call 27) (s, now (tree .entry)) (r, now (tree .exit)) ⌝ }
 {
+    let tokens = &*tokens;
     let t = take(tokens, s, kind::CONST);
     let u = const_type(&*tokens, tree, t, depth);
     let v = take(tokens, u, kind::IDENTIFIER);

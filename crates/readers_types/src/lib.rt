@@ -54,6 +54,7 @@ pub fn string_type(
     requires { ⌜ Short (now tokens) × (0 < word) ⌝ }
     ensures { λ r. ⌜ Follows (now (tokens .entry)) depth rule (string-plan word rule) (s, now (tree .entry)) (r, now (tree .exit)) ⌝ }
 {
+    let tokens = &*tokens;
     let t = take(tokens, s, word);
     let next = next_kind(tokens, t);
     if next == kind::OPEN_ANGLE {
@@ -142,6 +143,7 @@ pub fn declarator(tokens: &[u32], tree: &mut [u32], s: Reading, depth: u32) -> R
     requires { ⌜ Short (now tokens) ⌝ }
     ensures { λ r. ⌜ Reads (now (tokens .entry)) depth (call 50) (s, now (tree .entry)) (r, now (tree .exit)) ⌝ }
 {
+    let tokens = &*tokens;
     let t = take(tokens, s, kind::IDENTIFIER);
     behind_name(&*tokens, tree, s, t, depth)
 }
@@ -205,6 +207,7 @@ pub fn enum_type(tokens: &[u32], tree: &mut [u32], s: Reading, depth: u32) -> Re
     requires { ⌜ Short (now tokens) ⌝ }
     ensures { λ r. ⌜ Reads (now (tokens .entry)) depth (call 78) (s, now (tree .entry)) (r, now (tree .exit)) ⌝ }
 {
+    let tokens = &*tokens;
     let t = take(tokens, s, kind::ENUM);
     let u = take(tokens, t, kind::IDENTIFIER);
     let v = enumerators(&*tokens, tree, u, depth);
@@ -216,6 +219,7 @@ pub fn param_type_spec(tokens: &[u32], tree: &mut [u32], s: Reading, depth: u32)
     requires { ⌜ Short (now tokens) ⌝ }
     ensures { λ r. ⌜ Reads (now (tokens .entry)) depth (call 95) (s, now (tree .entry)) (r, now (tree .exit)) ⌝ }
 {
+    let tokens = &*tokens;
     let next = next_kind(tokens, s);
     match next {
         kind::STRING => string_type(&*tokens, tree, s, depth, kind::STRING, 81),
@@ -268,6 +272,7 @@ pub fn case_label(tokens: &[u32], tree: &mut [u32], s: Reading, depth: u32) -> R
     requires { ⌜ Short (now tokens) ⌝ }
     ensures { λ r. ⌜ Reads (now (tokens .entry)) depth (call 76) (s, now (tree .entry)) (r, now (tree .exit)) ⌝ }
 {
+    let tokens = &*tokens;
     let next = next_kind(tokens, s);
     if next == kind::CASE {
         let t = take(tokens, s, kind::CASE);

@@ -93,6 +93,7 @@ fn bases(tokens: &[u32], tree: &mut [u32], s: Reading) -> Reading
     requires { ⌜ Short (now tokens) ⌝ }
     ensures { λ r. ⌜ Flat (now (tokens .entry)) optional-bases (s, now (tree .entry)) (r, now (tree .exit)) ⌝ }
 {
+    let tokens = &*tokens;
     let next = next_kind(tokens, s);
     match next {
         kind::COLON | kind::SUPPORTS => value_inheritance_spec(&*tokens, tree, s),
@@ -117,6 +118,7 @@ fn state_member(tokens: &[u32], tree: &mut [u32], s: Reading, depth: u32) -> Rea
     requires { ⌜ Short (now tokens) ⌝ }
     ensures { λ r. ⌜ Reads (now (tokens .entry)) depth (call 22) (s, now (tree .entry)) (r, now (tree .exit)) ⌝ }
 {
+    let tokens = &*tokens;
     let t = visibility(&*tokens, s);
     let u = type_spec(&*tokens, tree, t, depth);
     let v = declarators(&*tokens, tree, u, depth);
