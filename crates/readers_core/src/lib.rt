@@ -1,6 +1,6 @@
 // A reader's state, and what every reader is made of: tokens, marks that open, and nodes.
 // A state that has stopped passes through every reader, so that readers are straight lines. They pass the token table on as
-// `&*tokens`: lent anew it travels in registers.
+// `&*tokens`, and those that the compiler does not inline lend it anew at their start, too: so it travels in registers.
 ghost use mathlib.Core.Path.{_≡_};
 ghost use lib.Dec.{leb};
 ghost use Prim.Native.Nat.{_<_};
