@@ -93,7 +93,6 @@ fn bases(tokens: &[u32], tree: &mut [u32], s: Reading) -> Reading
     requires { ⌜ Short (now tokens) ⌝ }
     ensures { λ r. ⌜ Flat (now (tokens .entry)) optional-bases (s, now (tree .entry)) (r, now (tree .exit)) ⌝ }
 {
-    let tokens = &*tokens;
     let next = next_kind(tokens, s);
     match next {
         kind::COLON | kind::SUPPORTS => value_inheritance_spec(&*tokens, tree, s),
