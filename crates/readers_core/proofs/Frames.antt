@@ -1,8 +1,8 @@
 -- Readers of a whole rule: what a choice comes to as the next kind tells, and a frame of its own for the rule.
 -- A frame begins with nothing and ends as one node behind its caller's forest; a stopped state passes. Assumes nothing.
-use Prim.Native.Nat.{ℕ, zero, suc, _+_, _*_, _^_, _<_}
+use Prim.Native.Nat.{ℕ, zero, suc, _+_, _*_, _%_, _^_, _<_}
 use native.Mathlib.Omega.{arith}
-use mathlib.Core.Path.{_≡_, refl, sym, _∙_, subst}
+use mathlib.Core.Path.{_≡_, refl, ap, sym, _∙_, subst}
 use mathlib.Core.Bool.{Bool, true, false, not, cond}
 use mathlib.Core.List.{List, [], _∷_}
 use mathlib.Core.Logic.{_⊎_, inl, inr}
@@ -13,9 +13,12 @@ use Rattle.prediction.specs.Plan.{Plan, call, token, seq, wrap}
 use Rattle.grammar.specs.Forest.{Forest}
 use Rattle.prediction.specs.Run.{Outcome, Runs, run-seq, run-seq-stop}
 use Rattle.prediction.proofs.IdlChecked.{idl-table}
-use Rattle.readers_core.specs.Reading.{kind-at, ahead, Short, view, State, Seen, Does, From, Reads, none-recorded}
+use Rattle.readers_core.specs.Reading.{kind-at, ahead, half, stop, Short, view, State, Seen, Does, From, Reads, none-recorded}
+use Rattle.readers_core.specs.Reading.{Opens, opens-inside, opens-stopped}
 use Rattle.readers_core.proofs.Shapes.{leaves}
-use Rattle.readers_core.proofs.Sequence.{does-call, does-stays, _▸_, unrecorded}
+use Rattle.readers_core.proofs.Sequence.{does-call, does-stays, taken, _▸_, unrecorded}
+use Rattle.readers_core.proofs.Views.{goes-on, going-at, has-stopped, onward-answers, onward-at, onward-count}
+use Rattle.readers_core.proofs.Views.{onward-goes, onward-there}
 use Rattle.readers_core.proofs.Choosing.{Known, Knows, choose, run-chosen, one-of, run-one-of}
 
 pub going : (n : ℕ) → (n ≡ 0) ⊎ (n ≡ 0 → ⊥)
@@ -33,12 +36,46 @@ ahead-none ks s n = go (eqb (view s .answer) 0) (eqb→eq (view s .answer) 0)
     go false u = refl
 
 -- a token that is there stands in the table
-pub in-table : (ks : List ℕ) (i k : ℕ) → Short ks → 0 < k → kind-at ks i ≡ k → i + 1 < 2 ^ 32
+pub in-table : (ks : List ℕ) (i k : ℕ) → Short ks → 0 < k → kind-at ks i ≡ k → 3 * i < 2 ^ 32
 in-table ks i k h z e = go (decide (ltb (3 * i) (length ks)))
   where
-    go : T (ltb (3 * i) (length ks)) ⊎ T (not (ltb (3 * i) (length ks))) → i + 1 < 2 ^ 32
+    go : T (ltb (3 * i) (length ks)) ⊎ T (not (ltb (3 * i) (length ks))) → 3 * i < 2 ^ 32
     go (inl u) = let l = ltb→lt (3 * i) (length ks) u in omega arith
     go (inr u) = let x = List·getD-eq-default ks 0 (nltb→le (3 * i) (length ks) u) in absurd (omega arith)
+
+-- one that is there is taken; at a stop, that stays
+module _ (ks : List ℕ) (k s : ℕ) (h : Short ks) (z : 0 < k) (e : kind-at ks (s % half) ≡ k) where
+  fits : 3 * (s % half) < 2 ^ 32
+  fits = in-table ks (s % half) k h z e
+
+  there : s < stop → kind-at ks (view s .at) ≡ k
+  there low = ap (λ (i : ℕ). kind-at ks i) (going-at s low) ∙ e
+
+  pub moves-past : {d start : ℕ} {hs w : List ℕ} → From ks d start hs (token k) (s, w) (s + 1, w)
+  moves-past {d} {start} {hs} {w} = go (decide (ltb s stop))
+    where
+      go : T (ltb s stop) ⊎ T (not (ltb s stop)) → From ks d start hs (token k) (s, w) (s + 1, w)
+      go (inl u) =
+          let low = ltb→lt s stop u in
+          taken (goes-on s low) (there low) (onward-goes s low fits) (onward-at s low fits) (onward-count s low fits)
+      go (inr u) = record {
+        does = λ b _ _. does-stays (has-stopped s (nltb→le s stop u)) (record {
+          answers = onward-answers s (nltb→le s stop u) fits;
+          places = onward-there s (nltb→le s stop u) fits;
+        });
+      }
+
+  pub opens-past : {d : ℕ} → 0 < d → Opens ks d k s (s + 1)
+  opens-past {d} l = go (decide (ltb s stop))
+    where
+      go : T (ltb s stop) ⊎ T (not (ltb s stop)) → Opens ks d k s (s + 1)
+      go (inl u) =
+          let low = ltb→lt s stop u in
+          opens-inside (goes-on s low) (there low) l (onward-goes s low fits) (onward-at s low fits)
+          (onward-count s low fits)
+      go (inr u) =
+          let high = nltb→le s stop u in
+          opens-stopped (has-stopped s high) (onward-answers s high fits) (onward-there s high fits)
 
 -- what a plan comes to, as the next kind tells
 pub chosen : {ks : List ℕ} {d x : ℕ} {p : Plan} {start : ℕ} {hs : List ℕ} {s s′ : State} (k : Known) →

@@ -3,7 +3,7 @@
 use Prim.Native.Nat.{ℕ, suc, _-_, _<_}
 use native.Mathlib.Numerals.{add-one}
 use native.Mathlib.Omega.{arith}
-use mathlib.Core.Path.{_≡_, refl, ap, sym, _∙_, subst}
+use mathlib.Core.Path.{_≡_, refl, sym, _∙_, subst}
 use mathlib.Core.List.{List, [], _∷_}
 use Rattle.grammar.specs.Forest.{Forest, leaf}
 use Rattle.grammar.specs.Record.{shape}
@@ -16,11 +16,11 @@ use Rattle.prediction.proofs.IdlChecked.{idl-table}
 use Rattle.readers_core.specs.Reading.{kind-at, view, State, Seen, seen, Ends, ends-blame, ends-deep, Ran, From}
 use Rattle.readers_core.specs.Reading.{Opens, opens-stopped, opens-blamed, opens-deep, opens-inside}
 use Rattle.readers_core.proofs.Holding.{held-token}
-use Rattle.readers_core.proofs.Sequence.{after, stays}
+use Rattle.readers_core.proofs.Sequence.{after, does-stays}
 
 -- where the mark is read, a level was left
 pub level : {ks : List ℕ} {d k s s′ : ℕ} → Opens ks d k s s′ → view s′ .answer ≡ 0 → 0 < d
-level (opens-stopped n e) z = absurd (n (sym (ap (λ (x : ℕ). view x .answer) e) ∙ z))
+level (opens-stopped n e e′) z = absurd (n (sym e ∙ z))
 level (opens-blamed u n e e′) z = absurd (omega arith)
 level (opens-deep u n h e e′) z = absurd (omega arith)
 level (opens-inside u n h e a c) z = h
@@ -28,8 +28,7 @@ level (opens-inside u n h e a c) z = h
 -- the group stops at its opening mark
 pub shut-out : {k c : ℕ} {p : Plan} {ks : List ℕ} {d start s s′ : ℕ} {hs w : List ℕ} → Opens ks d k s s′ →
     (view s′ .answer ≡ 0 → ⊥) → From ks d start hs (group k p c) (s, w) (s′, w)
-shut-out {k} {c} {p} {ks} {d} {start} {s} {s′} {hs} {w} (opens-stopped n e) m =
-    subst (λ (x : ℕ). From ks d start hs (group k p c) (s, w) (x, w)) (sym e) (stays n)
+shut-out (opens-stopped n e e′) m = record { does = λ b _ _. does-stays n (record { answers = e; places = e′ }) }
 shut-out {s = s} (opens-blamed z n e e′) m = record {
   does = λ b _ _. record {
     stays = λ u. absurd (u z);
@@ -61,7 +60,7 @@ pub grouped : {k c : ℕ} {p : Plan} {ks : List ℕ} {d start s s1 : ℕ} {hs w 
     Opens ks d k s s1 → view s1 .answer ≡ 0 → From ks (d - 1) start (2 ∷ []) (seq p (token c)) (s1, w) s2 →
     From ks d start hs (group k p c) (s, w) s2
 unfolding stopped shape elem
-grouped (opens-stopped n e) m x = absurd (n (sym (ap (λ (x : ℕ). view x .answer) e) ∙ m))
+grouped (opens-stopped n e e′) m x = absurd (n (sym e ∙ m))
 grouped (opens-blamed z n q q′) m x = absurd (omega arith)
 grouped (opens-deep z n h q q′) m x = absurd (omega arith)
 grouped {k} {c} {p} {ks} {d} {start} {s} {s1} {hs} {w} {s2} (opens-inside z n h q a e) m x = record {

@@ -1,87 +1,115 @@
 -- A reader's state in one number: what each step of the code does to its parts.
 -- By the arithmetic of its halves. Assumes nothing.
-use Prim.Native.Nat.{ℕ, _+_, _-_, _%_, _^_, _≤_, _<_}
+use Prim.Native.Nat.{ℕ, _+_, _-_, _*_, _/_, _%_, _^_, _≤_, _<_}
 use native.Mathlib.Omega.{arith}
 use mathlib.Core.Path.{_≡_, refl, sym, _∙_, subst}
 use mathlib.Core.Bool.{Bool, true, false, not, cond}
-use mathlib.Core.Logic.{_⊎_, inl, inr}
-use lib.Dec.{T, eqb, ltb, leb, leb→le, nleb→lt}
-use Rattle.prediction.specs.Sets.{decide}
-use borrow.Author.Tests.{lt-ltb, le-ltb, le-leb, lt-leb}
-use Rattle.readers_core.specs.Reading.{half, blamed, too-deep, view, ceiling}
+use lib.Dec.{T, eqb, leb, leb→le, nleb→lt}
+use borrow.Author.Tests.{eq-eqb, ne-eqb, lt-ltb, le-ltb}
+use Rattle.readers_core.specs.Reading.{half, stop, step, deep-rest, blamed, too-deep, view, ceiling}
 
-pub goes-on : (s : ℕ) → s < blamed → view s .answer ≡ 0
-goes-on s h = rw (lt-ltb s blamed h) refl
+pub goes-on : (s : ℕ) → s < stop → view s .answer ≡ 0
+goes-on s h = rw (lt-ltb s stop h) refl
 
-pub has-stopped : (s : ℕ) → blamed ≤ s → view s .answer ≡ 0 → ⊥
-has-stopped s h e = go (ltb s too-deep) (sym stop ∙ e)
+pub going-at : (s : ℕ) → s < stop → view s .at ≡ s % half
+going-at s h = rw (lt-ltb s stop h) refl
+
+-- what a stop answers, and where it stands
+stop-answers : (s : ℕ) → stop ≤ s → view s .answer ≡ cond (eqb (s % step) deep-rest) 8 7
+stop-answers s h = rw (le-ltb s stop h) refl
+
+pub stop-at : (s : ℕ) → stop ≤ s → view s .at ≡ (s - stop) / step
+stop-at s h = rw (le-ltb s stop h) refl
+
+pub has-stopped : (s : ℕ) → stop ≤ s → view s .answer ≡ 0 → ⊥
+has-stopped s h e = go (eqb (s % step) deep-rest) (sym (stop-answers s h) ∙ e)
   where
-    stop : view s .answer ≡ cond (ltb s too-deep) 7 8
-    stop = rw (le-ltb s blamed h) refl
-
-    go : (x : Bool) → _≡_ {A = ℕ} (cond x 7 8) 0 → ⊥
+    go : (x : Bool) → _≡_ {A = ℕ} (cond x 8 7) 0 → ⊥
     go true u = omega (arith, u)
     go false u = omega (arith, u)
 
 -- as the test `has_stopped` tells
-pub stopped-if : (s : ℕ) {x : Bool} → x ≡ leb blamed s → x ≡ true → view s .answer ≡ 0 → ⊥
-stopped-if s e h = has-stopped s (leb→le blamed s (subst (λ (b : Bool). T b) (sym h ∙ e) tt))
+pub stopped-if : (s : ℕ) {x : Bool} → x ≡ leb stop s → x ≡ true → view s .answer ≡ 0 → ⊥
+stopped-if s e h = has-stopped s (leb→le stop s (subst (λ (b : Bool). T b) (sym h ∙ e) tt))
 
-pub going-if : (s : ℕ) {x : Bool} → x ≡ leb blamed s → x ≡ false → view s .answer ≡ 0
-going-if s e h = goes-on s (nleb→lt blamed s (subst (λ (b : Bool). T (not b)) (sym h ∙ e) tt))
+pub going-if : (s : ℕ) {x : Bool} → x ≡ leb stop s → x ≡ false → view s .answer ≡ 0
+going-if s e h = goes-on s (nleb→lt stop s (subst (λ (b : Bool). T (not b)) (sym h ∙ e) tt))
 
 -- as the test `is_too_deep` tells
-pub deep-as : (s : ℕ) → leb too-deep s ≡ eqb (view s .answer) 8
-deep-as s = go (decide (leb too-deep s))
+pub deep-if : (s : ℕ) → stop ≤ s → eqb (s % step) deep-rest ≡ eqb (view s .answer) 8
+deep-if s h = rw (stop-answers s h) (go (eqb (s % step) deep-rest))
   where
-    low : (x : Bool) → false ≡ eqb (cond x 0 7) 8
-    low true = refl
-    low false = refl
-
-    go : T (leb too-deep s) ⊎ T (not (leb too-deep s)) → leb too-deep s ≡ eqb (view s .answer) 8
-    go (inl u) =
-        let h = leb→le too-deep s u in
-        rw (le-leb too-deep s h, le-ltb s blamed (omega (arith, h)), le-ltb s too-deep h) refl
-    go (inr u) =
-        let h = nleb→lt too-deep s u in
-        rw (lt-leb too-deep s h, lt-ltb s too-deep h) (low (ltb s blamed))
+    go : (x : Bool) → x ≡ eqb (cond x 8 7) 8
+    go true = refl
+    go false = refl
 
 -- a token is blamed, or lies too deep
-pub blames : (s : ℕ) → view (s % half + blamed) .answer ≡ 7
-blames s = rw (le-ltb (s % half + blamed) blamed (omega arith), lt-ltb (s % half + blamed) too-deep (omega arith)) refl
+stops-blamed : (s : ℕ) → stop ≤ s → (s % step ≡ deep-rest → ⊥) → view s .answer ≡ 7
+stops-blamed s h n = rw (le-ltb s stop h, ne-eqb (s % step) deep-rest n) refl
 
-pub sinks : (s : ℕ) → view (s % half + too-deep) .answer ≡ 8
-sinks s = rw (le-ltb (s % half + too-deep) blamed (omega arith), le-ltb (s % half + too-deep) too-deep (omega arith)) refl
+module _ (s : ℕ) where
+  pub blames : view (s % half * step + blamed) .answer ≡ 7
+  blames = stops-blamed (s % half * step + blamed) (omega arith) (λ e. omega (arith, e))
 
-pub blames-there : (s : ℕ) → view (s % half + blamed) .at ≡ view s .at
-blames-there s = omega arith
+  pub sinks : view (s % half * step + too-deep) .answer ≡ 8
+  sinks =
+      rw (
+        le-ltb (s % half * step + too-deep) stop (omega arith),
+        eq-eqb ((s % half * step + too-deep) % step) deep-rest (omega arith),
+      ) refl
 
-pub sinks-there : (s : ℕ) → view (s % half + too-deep) .at ≡ view s .at
-sinks-there s = omega arith
+  pub blames-there : s < stop → view (s % half * step + blamed) .at ≡ view s .at
+  blames-there h = stop-at (s % half * step + blamed) (omega arith) ∙ omega (arith, going-at s h)
+
+  pub sinks-there : s < stop → view (s % half * step + too-deep) .at ≡ view s .at
+  sinks-there h = stop-at (s % half * step + too-deep) (omega arith) ∙ omega (arith, going-at s h)
 
 -- a token is taken
-module _ (s : ℕ) (low : s < blamed) (fits : view s .at + 1 < half) where
+module _ (s : ℕ) (low : s < stop) (fits : 3 * (s % half) < 2 ^ 32) where
+  below : s + 1 < stop
+  below = omega (arith, low, fits)
+
   pub onward-goes : view (s + 1) .answer ≡ 0
-  onward-goes = goes-on (s + 1) (omega (arith, low, fits))
+  onward-goes = goes-on (s + 1) below
 
   pub onward-at : view (s + 1) .at ≡ view s .at + 1
-  onward-at = omega (arith, low, fits)
+  onward-at = omega (arith, going-at (s + 1) below, going-at s low, fits)
 
   pub onward-count : view (s + 1) .count ≡ view s .count
   onward-count = omega (arith, low, fits)
 
+-- a stop stays also where a token is found at its low half, which no reader makes
+module _ (s : ℕ) (high : stop ≤ s) (fits : 3 * (s % half) < 2 ^ 32) where
+  pub onward-answers : view (s + 1) .answer ≡ view s .answer
+  onward-answers =
+      stops-blamed (s + 1) (omega (arith, high)) (λ e. omega (arith, e, fits))
+      ∙ sym (stops-blamed s high (λ e. omega (arith, e, fits)))
+
+  pub onward-there : view (s + 1) .at ≡ view s .at
+  onward-there = stop-at (s + 1) (omega (arith, high)) ∙ omega (arith, stop-at s high, high, fits)
+
 -- a record is counted
 module _ (s : ℕ) (low : view s .count < ceiling) where
+  goes-below : s < stop
+  goes-below = omega (arith, low)
+
+  next-below : s + half < stop
+  next-below = omega (arith, low)
+
   pub counted-goes : view (s + half) .answer ≡ 0
-  counted-goes = goes-on (s + half) (omega (arith, low))
+  counted-goes = goes-on (s + half) next-below
 
   pub counted-at : view (s + half) .at ≡ view s .at
-  counted-at = omega (arith, low)
+  counted-at = omega (arith, going-at (s + half) next-below, going-at s goes-below)
 
   pub counted-count : view (s + half) .count ≡ view s .count + 1
   counted-count = omega (arith, low)
 
-  -- and the records since a start are those that the difference counts
-  pub counted-since : (start : ℕ) → view start .at ≤ view s .at → view start .count ≤ view s .count → {n : ℕ} →
-      n < 2 ^ 64 → (n + start) % 2 ^ 64 ≡ s + half → view n .count ≡ view s .count + 1 - view start .count
-  counted-since start le le′ h e = omega (arith, low, le, le′, h, e)
+  module _ (start : ℕ) (le : view start .count ≤ view s .count) where
+    pub started-at : start % half ≡ view start .at
+    started-at = sym (going-at start (omega (arith, low, le)))
+
+    -- and the records since a start are those that the difference counts
+    pub counted-since : view start .at ≤ view s .at → {n : ℕ} → n < 2 ^ 64 → (n + start) % 2 ^ 64 ≡ s + half →
+        view n .count ≡ view s .count + 1 - view start .count
+    counted-since le′ h e = omega (arith, low, le, le′, started-at, going-at s goes-below, h, e)

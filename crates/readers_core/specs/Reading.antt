@@ -1,6 +1,6 @@
 -- A reader's state with the tree table, and what reading by a plan makes of it: one relation for every reader.
 -- Assumes nothing: these are definitions.
-use Prim.Native.Nat.{ℕ, suc, _+_, _*_, _/_, _%_, _<_, _^_, min}
+use Prim.Native.Nat.{ℕ, suc, _+_, _-_, _*_, _/_, _%_, _<_, _^_, min}
 use mathlib.Core.Path.{_≡_}
 use mathlib.Core.Bool.{Bool, true, not, _&&_, cond}
 use mathlib.Core.List.{List, [], _∷_}
@@ -29,18 +29,33 @@ pub record Reading : Type 0 where
   pub at : ℕ
   pub count : ℕ
 
--- the same in one number: the next token in its low half, the records in its high half, which from 2 ^ 31 on tells a stop
+-- the same in one number: the next token in its low half, the records in its high half; from 2 ^ 63 on a stop, with 2 ^ 31
+-- times its token, and a rest that tells the one for depth
 abbrev pub half : ℕ
 half = 4294967296
 
+abbrev pub stop : ℕ
+stop = 9223372036854775808
+
+abbrev pub step : ℕ
+step = 2147483648
+
+abbrev pub deep-rest : ℕ
+deep-rest = 2147483646
+
+-- a stop at token 0
 abbrev pub blamed : ℕ
-blamed = 9223372036854775808
+blamed = 9223372039002259455
 
 abbrev pub too-deep : ℕ
-too-deep = 9223372041149743104
+too-deep = 9223372039002259454
 
 abbrev pub view : ℕ → Reading
-view s = record { answer = cond (ltb s blamed) 0 (cond (ltb s too-deep) 7 8); at = s % half; count = s / half }
+view s = record {
+  answer = cond (ltb s stop) 0 (cond (eqb (s % step) deep-rest) 8 7);
+  at = cond (ltb s stop) (s % half) ((s - stop) / step);
+  count = s / half;
+}
 
 -- the kind of the next token, 0 at the end and where reading has stopped
 abbrev pub ahead : List ℕ → ℕ → ℕ
@@ -162,7 +177,7 @@ pub record Closes (r start : ℕ) (s s′ : State) : Type 0 where
 
 -- an opening mark k, with d levels of depth left
 pub data Opens (ks : List ℕ) (d k : ℕ) (s s′ : ℕ) : Type 0 where
-  opens-stopped : (view s .answer ≡ 0 → ⊥) → s′ ≡ s → Opens ks d k s s′
+  opens-stopped : (view s .answer ≡ 0 → ⊥) → view s′ .answer ≡ view s .answer → view s′ .at ≡ view s .at → Opens ks d k s s′
   opens-blamed : view s .answer ≡ 0 → (kind-at ks (view s .at) ≡ k → ⊥) → view s′ .answer ≡ 7 →
       view s′ .at ≡ view s .at → Opens ks d k s s′
   opens-deep : view s .answer ≡ 0 → kind-at ks (view s .at) ≡ k → d ≡ 0 → view s′ .answer ≡ 8 →

@@ -5,7 +5,7 @@ use borrow.Author.Needs.{needs}
 use mathlib.Core.Path.{_∙_, ap, sym}
 use Rattle.readers_core.specs.Reading.{kind-at}
 use Rattle.readers_core.proofs.Frames.{ahead-kind, ahead-none}
-use Rattle.readers_core.proofs.Views.{goes-on, has-stopped}
+use Rattle.readers_core.proofs.Views.{goes-on, going-at, has-stopped}
 use Rattle.readers_core.proofs.next_kind.Statement.{statement}
 use Rattle.readers_core.proofs.next_kind.Tie as tie
 
@@ -18,7 +18,8 @@ returns-2 : tie.Need-returns-2
 returns-2 c =
     let args = c .before .before .before .before .args in
     let if1 = c .before .before .if1 in
-    (c .kind-at .ensures) ∙ ap (λ (i : ℕ). kind-at (args .tokens .now) i) (c .before .place .ensures)
+    (c .kind-at .ensures)
+    ∙ ap (λ (i : ℕ). kind-at (args .tokens .now) i) ((c .before .low .ensures) ∙ sym (going-at (args .s) (if1 .left)))
     ∙ sym (ahead-kind (args .tokens .now) (args .s) (goes-on (args .s) (if1 .left)))
 
 pub next-kind-spec : {M : Type 1} → statement M

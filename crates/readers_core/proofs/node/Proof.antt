@@ -2,11 +2,11 @@
 -- At the ceiling of the count, and after a stop, nothing is done. Assumes nothing.
 use Prim.Native.Nat.{_<_}
 use borrow.Author.Needs.{needs}
-use mathlib.Core.Path.{_∙_}
+use mathlib.Core.Path.{_∙_, sym}
 use native.Mathlib.Omega.{arith}
 use Rattle.readers_core.proofs.Sequence.{full-node, recorded-node}
 use Rattle.readers_core.proofs.Storing.{write-below}
-use Rattle.readers_core.proofs.Views.{counted-at, counted-count, counted-goes, counted-since, goes-on}
+use Rattle.readers_core.proofs.Views.{counted-at, counted-count, counted-goes, counted-since, goes-on, going-at, started-at}
 use Rattle.readers_core.specs.Reading.{ceiling, view}
 use Rattle.readers_core.proofs.node.Statement.{statement}
 use Rattle.readers_core.proofs.node.Tie as tie
@@ -25,16 +25,18 @@ returns-3 c =
     let records = c .before .before .before .before .before .before .before .before .records in
     let wrapping-sub-u64 = c .before .before .before .before .before .before .before .wrapping-sub-u64 in
     let records2 = c .before .before .before .before .before .before .records2 in
-    let place = c .before .before .before .before .place in
-    let place2 = c .before .before .before .place2 in
+    let low-start = c .before .before .before .before .low in
+    let low-end = c .before .before .before .low2 in
     let put-node = c .before .before .put-node in
     let low : view (args .s) .count < ceiling = omega (arith, if2 .left) in
     record {
       wraps = λ ks d hs t.
           recorded-node t (goes-on (args .s) (if1 .left)) low (counted-goes (args .s) low)
           (counted-at (args .s) low) (counted-count (args .s) low)
-          (λ le le′. (put-node .ensures) ∙ write-below (args .tree .now) (args .rule) low (records .ensures) (place .ensures)
-          (place2 .ensures) (records2 .ensures ∙ counted-since (args .s) low (args .start) le le′ (omega arith) (wrapping-sub-u64 .ensures)));
+          (λ le le′. (put-node .ensures) ∙ write-below (args .tree .now) (args .rule) low (records .ensures)
+          ((low-start .ensures) ∙ started-at (args .s) low (args .start) le′)
+          ((low-end .ensures) ∙ sym (going-at (args .s) (if1 .left)))
+          (records2 .ensures ∙ counted-since (args .s) low (args .start) le′ le (omega arith) (wrapping-sub-u64 .ensures)));
     }
 
 pub node-spec : {M : Type 1} → statement M

@@ -1,6 +1,5 @@
 -- `conclude` meets its contract: each way out is a case of the definition.
 -- What was tested decides the case. Assumes nothing.
-use Rattle.readers_core.proofs.Views.{deep-as}
 use Rattle.readers_core.specs.Reading.{view}
 use Rattle.tables.specs.Tables.{capacity, node-width}
 use Rattle.tree.specs.Conclusion.{concluded, kept-tree}
@@ -54,7 +53,7 @@ returns-3 c =
     let whole = sym (at-if1 .before .is-complete .ensures) ∙ at-if1 .if1 .left in
     let args = at-if1 .before .before .before .before .args in
     let deep : eqb (view (args .s) .answer) 8 ≡ true =
-    sym (deep-as (args .s)) ∙ sym (at-is-too-deep .is-too-deep .ensures) ∙ c .before .if3 .taken in (
+    sym (at-is-too-deep .is-too-deep .ensures) ∙ c .before .if3 .taken in (
       (c .too-deep .ensures) ∙ simp (at-place-of .place-of .ensures, at-place .place .ensures, whole, deep),
       (at-clear2 .clear2 .ensures) ∙ simp (whole),
     )
@@ -70,7 +69,7 @@ returns-4 c =
     let whole = sym (at-if1 .before .is-complete .ensures) ∙ at-if1 .if1 .left in
     let args = at-if1 .before .before .before .before .args in
     let deep : eqb (view (args .s) .answer) 8 ≡ false =
-    sym (deep-as (args .s)) ∙ sym (at-is-too-deep .is-too-deep .ensures) ∙ c .before .if3 .left in (
+    sym (at-is-too-deep .is-too-deep .ensures) ∙ c .before .if3 .left in (
       (c .grammar .ensures) ∙ simp (at-place-of .place-of .ensures, at-place .place .ensures, whole, deep),
       (at-clear2 .clear2 .ensures) ∙ simp (whole),
     )
