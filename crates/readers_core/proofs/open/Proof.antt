@@ -13,13 +13,15 @@ use Rattle.readers_core.proofs.open.Tie as tie
 add-result : tie.Need-add-result
 add-result c =
     let args = c .before .before .before .before .before .args in
-    let there = ap (λ (i : ℕ). kind-at (args .tokens .now) i) (sym (c .before .before .before .low .ensures)) ∙ sym (c .before .before .kind-at .ensures) ∙ (c .before .if1 .taken) in
+    let found = (c .before .before .kind-at .ensures) ∙ ap (λ (i : ℕ). kind-at (args .tokens .now) i) (c .before .before .before .low .ensures) in
+    let there = sym found ∙ (c .before .if1 .taken) in
     omega (arith, in-table (args .tokens .now) _ (args .mark) (omega arith) (omega arith) there)
 
 returns : tie.Need-returns
 returns c =
     let args = c .before .before .before .before .before .args in
-    let there = ap (λ (i : ℕ). kind-at (args .tokens .now) i) (sym (c .before .before .before .low .ensures)) ∙ sym (c .before .before .kind-at .ensures) ∙ (c .before .if1 .taken) in
+    let found = (c .before .before .kind-at .ensures) ∙ ap (λ (i : ℕ). kind-at (args .tokens .now) i) (c .before .before .before .low .ensures) in
+    let there = sym found ∙ (c .before .if1 .taken) in
     opens-past (args .tokens .now) (args .mark) (args .s) (omega arith) (omega arith) there (c .if2 .taken)
 
 returns-2 : tie.Need-returns-2

@@ -14,13 +14,15 @@ use Rattle.readers_core.proofs.take.Tie as tie
 add-result : tie.Need-add-result
 add-result c =
     let args = c .before .before .before .before .args in
-    let there = ap (λ (i : ℕ). kind-at (args .tokens .now) i) (sym (c .before .before .low .ensures)) ∙ sym (c .before .kind-at .ensures) ∙ (c .if1 .taken) in
+    let found = (c .before .kind-at .ensures) ∙ ap (λ (i : ℕ). kind-at (args .tokens .now) i) (c .before .before .low .ensures) in
+    let there = sym found ∙ (c .if1 .taken) in
     omega (arith, in-table (args .tokens .now) _ (args .kind) (omega arith) (omega arith) there)
 
 returns : tie.Need-returns
 returns c =
     let args = c .before .before .before .before .args in
-    let there = ap (λ (i : ℕ). kind-at (args .tokens .now) i) (sym (c .before .before .low .ensures)) ∙ sym (c .before .kind-at .ensures) ∙ (c .if1 .taken) in
+    let found = (c .before .kind-at .ensures) ∙ ap (λ (i : ℕ). kind-at (args .tokens .now) i) (c .before .before .low .ensures) in
+    let there = sym found ∙ (c .if1 .taken) in
     record { reads = λ d w. record { in-any = λ start hs. moves-past (args .tokens .now) (args .kind) (args .s) (omega arith) (omega arith) there } }
 
 returns-2 : tie.Need-returns-2
