@@ -3,7 +3,6 @@ ghost use mathlib.Core.Path.{_≡_};
 ghost use Prim.Native.Nat.{_≤_};
 ghost use lib.ListN.{length};
 ghost use Rattle.text.specs.Blanks.{line-comment, block-comment, to-close};
-use text::Class;
 use text::Lexeme;
 
 // From // to byte 10, byte 13 or the end of the text.
@@ -11,7 +10,7 @@ pub fn line_comment(bs: &[u8]) -> Lexeme
     requires { ⌜ 2 ≤ length (now bs) ⌝ }
     ensures { λ r. ⌜ r ≡ line-comment (now (bs .entry)) ⌝ }
 {
-    Lexeme::Blank(2 + text::run_by_blocks(Class::InLine, &bs[2..]))
+    Lexeme::Blank(2 + text::line_run(&bs[2..]))
 }
 
 // How many bytes there are to the end of the next */; 0 where there is none. From a star that closes nothing it goes on to
@@ -27,7 +26,7 @@ fn to_close(bs: &[u8]) -> usize
             }
         }
         n += 1;
-        n += text::run_by_blocks(Class::Starless, &bs[n..]);
+        n += text::starless_run(&bs[n..]);
     }
     0
 }

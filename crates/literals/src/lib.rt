@@ -206,7 +206,7 @@ fn string(wide: bool, n: usize, bs: &[u8]) -> Lexeme
 {
     let mut i = n;
     loop {
-        i += text::run_by_windows(Class::Ordinary, &bs[i..]);
+        i += text::string_run(&bs[i..]);
         let next = piece(wide, b'"', &bs[i..]);
         match next {
             Piece::Close => return Lexeme::Token(string_kind(wide), i + 1),

@@ -29,9 +29,6 @@ member InLine = in-line
 member Starless = starless
 member Ordinary = ordinary
 
--- the bytes that are passed whole or not at all, and those among which an end is looked for
+-- the bytes that are passed whole or not at all
 abbrev pub block : ℕ
 block = 8
-
-abbrev pub window : ℕ
-window = 32

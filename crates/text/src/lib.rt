@@ -2,9 +2,9 @@
 ghost use lib.Dec.{leb};
 ghost use lib.ListN.{length, drop};
 ghost use mathlib.Core.Path.{_≡_};
-ghost use Prim.Native.Nat.{_+_, _≤_, min};
+ghost use Prim.Native.Nat.{_+_, _≤_, _<_, min};
 ghost use Rattle.text.specs.Bytes.{at, run, space, letter, digit, octal, hexadecimal, wordly, in-line};
-ghost use Rattle.text.specs.Classes.{starless, ordinary, member, block, window};
+ghost use Rattle.text.specs.Classes.{starless, ordinary, member, block};
 ghost use Rattle.text.specs.Literals.{plain};
 
 // What stands at the front of the rest of a text. Lengths are in bytes.
@@ -176,8 +176,8 @@ fn fills_block(class: Class, text: &[u8]) -> bool
     all
 }
 
-// The same count by blocks, for runs that are long where there are any: comments, white space.
-pub fn run_by_blocks(class: Class, text: &[u8]) -> usize
+// The same count by blocks.
+fn run_by_blocks(class: Class, text: &[u8]) -> usize
     ensures { λ r. ⌜ r ≡ run (member class) (now (text .entry)) ⌝ }
 {
     let mut n = 0;
@@ -190,9 +190,6 @@ pub fn run_by_blocks(class: Class, text: &[u8]) -> usize
     past_run(class, text, n)
 }
 
-// The bytes of a window, in which the end of a run is found with no branch for each byte.
-const WINDOW: u8 = 32;
-
 // The lesser of two numbers.
 fn lesser(a: u8, b: u8) -> u8
     ensures { λ r. ⌜ r ≡ min a b ⌝ }
@@ -200,17 +197,17 @@ fn lesser(a: u8, b: u8) -> u8
     if a < b { a } else { b }
 }
 
-// Where the run ends in the first window; its size where it does not. Every byte is looked at, so that the compiler takes
-// them together.
-fn end_in_window(class: Class, text: &[u8]) -> usize
-    requires { ⌜ window ≤ length (now text) ⌝ }
-    ensures { λ r. ⌜ r ≡ min window (run (member class) (now (text .entry))) ⌝ }
+// Where the run ends among so many first bytes; their number where it does not. Every byte is looked at, so that the
+// compiler takes them together: it is shorter and quicker than a branch for each.
+fn end_in_window(class: Class, size: u8, text: &[u8]) -> usize
+    requires { ⌜ size ≤ length (now text) ⌝ }
+    ensures { λ r. ⌜ r ≡ min size (run (member class) (now (text .entry))) ⌝ }
 {
-    let mut end = WINDOW;
+    let mut end = size;
     let mut k = 0;
-    while k < WINDOW {
+    while k < size {
         let place = if is_in(class, text[k as usize]) {
-            WINDOW
+            size
         } else {
             k
         };
@@ -220,17 +217,58 @@ fn end_in_window(class: Class, text: &[u8]) -> usize
     end as usize
 }
 
-// The same count by windows, for runs that end soon and anywhere: words, strings.
-pub fn run_by_windows(class: Class, text: &[u8]) -> usize
+// The same count by windows of a size. The next window does not wait for the end in this one.
+fn run_by_windows(class: Class, size: u8, text: &[u8]) -> usize
+    requires { ⌜ 0 < size ⌝ }
     ensures { λ r. ⌜ r ≡ run (member class) (now (text .entry)) ⌝ }
 {
     let mut n = 0;
-    while WINDOW as usize <= text.len() - n {
-        let end = end_in_window(class, &text[n..]);
-        n += end;
-        if end < WINDOW as usize {
-            return n;
+    while size as usize <= text.len() - n {
+        let end = end_in_window(class, size, &text[n..]);
+        if end < size as usize {
+            return n + end;
         }
+        n += size as usize;
     }
     past_run(class, text, n)
+}
+
+// The sizes of window: the least, of those tried, for which the compiler takes the bytes of these classes together.
+const WINDOW: u8 = 32;
+
+const LINE_WINDOW: u8 = 48;
+
+// How many bytes of a word stand at the front.
+pub fn word_run(text: &[u8]) -> usize
+    ensures { λ r. ⌜ r ≡ run wordly (now (text .entry)) ⌝ }
+{
+    run_by_windows(Class::Wordly, WINDOW, text)
+}
+
+// How many bytes stand at the front that a string may hold as they are.
+pub fn string_run(text: &[u8]) -> usize
+    ensures { λ r. ⌜ r ≡ run ordinary (now (text .entry)) ⌝ }
+{
+    run_by_windows(Class::Ordinary, WINDOW, text)
+}
+
+// How many bytes stand before the end of the line.
+pub fn line_run(text: &[u8]) -> usize
+    ensures { λ r. ⌜ r ≡ run in-line (now (text .entry)) ⌝ }
+{
+    run_by_windows(Class::InLine, LINE_WINDOW, text)
+}
+
+// How many bytes stand before the next star.
+pub fn starless_run(text: &[u8]) -> usize
+    ensures { λ r. ⌜ r ≡ run starless (now (text .entry)) ⌝ }
+{
+    run_by_blocks(Class::Starless, text)
+}
+
+// How many bytes of white space stand at the front.
+pub fn space_run(text: &[u8]) -> usize
+    ensures { λ r. ⌜ r ≡ run space (now (text .entry)) ⌝ }
+{
+    run_by_blocks(Class::Space, text)
 }

@@ -10,7 +10,6 @@ use limits::Limits;
 use replies::Reply;
 use tables::clear;
 use tables::put_token;
-use text::Class;
 use text::Lexeme;
 
 // What the whole text is: so many tokens, or its first fault.
@@ -44,7 +43,7 @@ fn past_space(text: &[u8], place: usize) -> usize
     if !is_space_at(text, place + 1) {
         return place + 1;
     }
-    place + text::run_by_blocks(Class::Space, &text[place..])
+    place + text::space_run(&text[place..])
 }
 
 // Reads the whole text. The records go into the table while it has room; counting goes on when it is full.

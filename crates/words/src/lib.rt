@@ -289,7 +289,7 @@ pub fn word(words: &[u8; 932], bs: &[u8]) -> Lexeme
     requires { ⌜ (now words ≡ table) × (letter (at (now bs) 0) ≡ true) ⌝ }
     ensures { λ r. ⌜ r ≡ text-words.word (now (bs .entry)) ⌝ }
 {
-    let n = text::run_by_windows(Class::Wordly, bs);
+    let n = text::word_run(bs);
     sorted(words, &bs[..n])
 }
 

@@ -13,23 +13,23 @@ use Rattle.text.proofs.Runs.{run-within}
 use Rattle.blanks.proofs.line_comment.Statement.{statement}
 use Rattle.blanks.proofs.line_comment.Tie as tie
 
-sub-run-by-blocks : tie.Need-sub-run-by-blocks
-sub-run-by-blocks c = search needs
+sub-line-run : tie.Need-sub-line-run
+sub-line-run c = search needs
 
-part-run-by-blocks-start : tie.Need-part-run-by-blocks-start
-part-run-by-blocks-start c = search needs
+part-line-run-start : tie.Need-part-line-run-start
+part-line-run-start c = search needs
 
-part-run-by-blocks-end : tie.Need-part-run-by-blocks-end
-part-run-by-blocks-end c = search needs
+part-line-run-end : tie.Need-part-line-run-end
+part-line-run-end c = search needs
 
-run-by-blocks-requires : tie.Need-run-by-blocks-requires
-run-by-blocks-requires c κs = search needs
+line-run-requires : tie.Need-line-run-requires
+line-run-requires c κs = search needs
 
-ran : (c : tie.After-run-by-blocks) → c .run-by-blocks .result ≡ run in-line (drop 2 (c .before .before .before .args .bs .now))
-ran c = c .run-by-blocks .ensures ∙ ap (run in-line) (rest (c .before .before .before .args .bs .now) 2)
+ran : (c : tie.After-line-run) → c .line-run .result ≡ run in-line (drop 2 (c .before .before .before .args .bs .now))
+ran c = c .line-run .ensures ∙ ap (run in-line) (rest (c .before .before .before .args .bs .now) 2)
 
-add-t8 : tie.Need-add-t8
-add-t8 c =
+add-t7 : tie.Need-add-t7
+add-t7 c =
     let bs = c .before .before .before .args .bs .now in
     omega (arith, ran c, run-within in-line (drop 2 bs), length-drop 2 bs)
 
@@ -40,4 +40,4 @@ returns c = ap (λ (n : ℕ). Blank (2 + n)) (ran c)
 pub line-comment-spec : {M : Type 1} → statement M
 line-comment-spec =
     tie.close
-    (tie.spec sub-run-by-blocks part-run-by-blocks-start part-run-by-blocks-end run-by-blocks-requires add-t8 returns)
+    (tie.spec sub-line-run part-line-run-start part-line-run-end line-run-requires add-t7 returns)

@@ -48,17 +48,17 @@ add-n : tie.Need-add-n Inv-loop μ-loop
 add-n c = search needs
 
 -- the text, and the place behind the byte that was looked at
-abbrev text : tie.After-run-by-blocks Inv-loop μ-loop → List ℕ
+abbrev text : tie.After-starless-run Inv-loop μ-loop → List ℕ
 text c = c .before .before .before .before .before .before .before .args .bs .now
 
-abbrev next : tie.After-run-by-blocks Inv-loop μ-loop → ℕ
+abbrev next : tie.After-starless-run Inv-loop μ-loop → ℕ
 next c = c .before .before .before .before .before .loop .n + 1
 
 -- what was counted there are the bytes before the next star
-counted : (c : tie.After-run-by-blocks Inv-loop μ-loop) → c .run-by-blocks .result ≡ run starless (drop (next c) (text c))
-counted c = c .run-by-blocks .ensures ∙ ap (run starless) (rest (text c) (next c))
+counted : (c : tie.After-starless-run Inv-loop μ-loop) → c .starless-run .result ≡ run starless (drop (next c) (text c))
+counted c = c .starless-run .ensures ∙ ap (run starless) (rest (text c) (next c))
 
-passed : (c : tie.After-run-by-blocks Inv-loop μ-loop) → Passed (text c) (next c + c .run-by-blocks .result)
+passed : (c : tie.After-starless-run Inv-loop μ-loop) → Passed (text c) (next c + c .starless-run .result)
 passed c =
     let joined = c .before .before in
     let one =

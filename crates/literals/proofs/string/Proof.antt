@@ -27,28 +27,28 @@ loop-holds : tie.Need-loop-holds Inv-loop μ-loop
 loop-holds c = reading-none _ _ _ (c .before .pre)
 
 -- the place after the ordinary bytes
-abbrev place : tie.After-run-by-windows Inv-loop μ-loop → ℕ
-place c = c .before .before .loop .i + c .run-by-windows .result
+abbrev place : tie.After-string-run Inv-loop μ-loop → ℕ
+place c = c .before .before .loop .i + c .string-run .result
 
-passed : (c : tie.After-run-by-windows Inv-loop μ-loop) →
+passed : (c : tie.After-string-run Inv-loop μ-loop) →
     let args = c .before .before .before .before .args in
     Reading (args .wide) (args .n) (args .bs .now) (place c)
 passed c =
     let loop = c .before .before in
     let bs = loop .before .before .args .bs .now in
-    reading-run _ _ _ (loop .loop .inv) (c .run-by-windows .result) (omega (arith, c .run-by-windows .ensures ∙ ap (run ordinary) (rest bs (loop .loop .i))))
+    reading-run _ _ _ (loop .loop .inv) (c .string-run .result) (omega (arith, c .string-run .ensures ∙ ap (run ordinary) (rest bs (loop .loop .i))))
 
-sub-run-by-windows : tie.Need-sub-run-by-windows Inv-loop μ-loop
-sub-run-by-windows c = search needs
+sub-string-run : tie.Need-sub-string-run Inv-loop μ-loop
+sub-string-run c = search needs
 
-part-run-by-windows-start : tie.Need-part-run-by-windows-start Inv-loop μ-loop
-part-run-by-windows-start c = search needs
+part-string-run-start : tie.Need-part-string-run-start Inv-loop μ-loop
+part-string-run-start c = search needs
 
-part-run-by-windows-end : tie.Need-part-run-by-windows-end Inv-loop μ-loop
-part-run-by-windows-end c = search needs
+part-string-run-end : tie.Need-part-string-run-end Inv-loop μ-loop
+part-string-run-end c = search needs
 
-run-by-windows-requires : tie.Need-run-by-windows-requires Inv-loop μ-loop
-run-by-windows-requires c κs = search needs
+string-run-requires : tie.Need-string-run-requires Inv-loop μ-loop
+string-run-requires c κs = search needs
 
 add-i : tie.Need-add-i Inv-loop μ-loop
 add-i c = omega (arith, passed c .within)
@@ -71,8 +71,8 @@ enum-told c = search needs
 string-kind-requires : tie.Need-string-kind-requires Inv-loop μ-loop
 string-kind-requires c κs = search needs
 
-add-t17 : tie.Need-add-t17 Inv-loop μ-loop
-add-t17 c = omega (arith, passed (c .before .before .before .before .before) .within)
+add-t16 : tie.Need-add-t16 Inv-loop μ-loop
+add-t16 c = omega (arith, passed (c .before .before .before .before .before) .within)
 
 returns : tie.Need-returns Inv-loop μ-loop
 unfolding string-piece
@@ -147,10 +147,10 @@ string-spec =
     Inv-loop
     μ-loop
     loop-holds
-    sub-run-by-windows
-    part-run-by-windows-start
-    part-run-by-windows-end
-    run-by-windows-requires
+    sub-string-run
+    part-string-run-start
+    part-string-run-end
+    string-run-requires
     add-i
     sub-piece
     part-piece-start
@@ -158,7 +158,7 @@ string-spec =
     piece-requires
     enum-told
     string-kind-requires
-    add-t17
+    add-t16
     returns
     enum-told-2
     returns-2

@@ -7,16 +7,16 @@ use mathlib.Core.Path.{_≡_, ap, sym, _∙_}
 use native.Mathlib.Omega.{arith}
 use borrow.Author.Needs.{needs}
 use Rattle.text.specs.Bytes.{run}
-use Rattle.text.specs.Classes.{member, window}
+use Rattle.text.specs.Classes.{member}
 use Rattle.text.proofs.Blocks.{end-so-far, end-unknown, end-further, end-known}
 use Rattle.text.proofs.end_in_window.Statement.{statement}
 use Rattle.text.proofs.end_in_window.Tie as tie
 
 abbrev Inv-loop : tie.InvT-loop
-Inv-loop class text end₀ k₀ end k = (k ≤ window) × (end ≡ end-so-far window k (run (member class) text))
+Inv-loop class size text end₀ k₀ end k = (k ≤ size) × (end ≡ end-so-far size k (run (member class) text))
 
 abbrev μ-loop : tie.MeasureT-loop
-μ-loop class text end₀ k₀ end k = window - k
+μ-loop class size text end₀ k₀ end k = size - k
 
 loop-again : tie.Need-loop-again Inv-loop μ-loop
 loop-again c =
@@ -26,22 +26,22 @@ loop-again c =
     let k = turn .before .loop .k in
     let inside = tested .is-in .ensures in
     let placed =
-    ⊎-elim (λ w. w .1 ∙ ap (λ (x : Bool). cond x window k) (sym (w .0 .taken) ∙ inside))
-    (λ w. w .1 ∙ ap (λ (x : Bool). cond x window k) (sym (w .0 .left) ∙ inside)) (c .before .if1 .came) in (
+    ⊎-elim (λ w. w .1 ∙ ap (λ (x : Bool). cond x (args .size) k) (sym (w .0 .taken) ∙ inside))
+    (λ w. w .1 ∙ ap (λ (x : Bool). cond x (args .size) k) (sym (w .0 .left) ∙ inside)) (c .before .if1 .came) in (
       omega arith,
       c .lesser .ensures
-          ∙ end-further (member (args .class)) (args .text .now) window k _ _ (turn .loop-test .taken) (omega arith) placed (turn .before .loop .inv .1),
+          ∙ end-further (member (args .class)) (args .text .now) (args .size) k _ _ (turn .loop-test .taken) (omega arith) placed (turn .before .loop .inv .1),
     )
 
 -- all bytes of the window are looked at
 found : (c : tie.After-loop Inv-loop μ-loop) →
     let args = c .before .before .before .args in
-    c .before .loop .end ≡ min window (run (member (args .class)) (args .text .now))
+    c .before .loop .end ≡ min (args .size) (run (member (args .class)) (args .text .now))
 found c =
     let args = c .before .before .before .args in
     let loop = c .before .loop in
     let r = run (member (args .class)) (args .text .now) in
-    loop .inv .1 ∙ ap (λ (k : ℕ). end-so-far window k r) (omega (arith, loop .inv .0)) ∙ end-known window r
+    loop .inv .1 ∙ ap (λ (k : ℕ). end-so-far (args .size) k r) (omega (arith, loop .inv .0)) ∙ end-known (args .size) r
 
 pub end-in-window-spec : {M : Type 1} → statement M
 end-in-window-spec =
@@ -49,7 +49,7 @@ end-in-window-spec =
     (tie.spec
     Inv-loop
     μ-loop
-    (λ c. (omega arith, end-unknown _ _ window))
+    (λ c. (omega arith, end-unknown _ _ (c .before .args .size)))
     (λ c. search needs)
     (λ c. search needs)
     (λ c κs. search needs)

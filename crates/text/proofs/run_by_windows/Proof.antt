@@ -7,18 +7,18 @@ use native.Mathlib.Omega.{arith}
 use borrow.Author.Needs.{needs}
 use lib.ListN.{length, drop, length-drop}
 use Rattle.text.specs.Bytes.{run}
-use Rattle.text.specs.Classes.{member, window}
+use Rattle.text.specs.Classes.{member}
 use Rattle.text.proofs.Blocks.{passed-block}
 use Rattle.text.proofs.Rests.{rest}
-use Rattle.text.proofs.Runs.{Passed, passed-none}
+use Rattle.text.proofs.Runs.{Passed, passed-none, run-within}
 use Rattle.text.proofs.run_by_windows.Statement.{statement}
 use Rattle.text.proofs.run_by_windows.Tie as tie
 
 abbrev Inv-loop : tie.InvT-loop
-Inv-loop class text n₀ n = Passed (member class) text n
+Inv-loop class size text n₀ n = Passed (member class) text n
 
 abbrev μ-loop : tie.MeasureT-loop
-μ-loop class text n₀ n = length text - n
+μ-loop class size text n₀ n = length text - n
 
 end-in-window-requires : tie.Need-end-in-window-requires Inv-loop μ-loop
 end-in-window-requires c κs =
@@ -29,27 +29,29 @@ end-in-window-requires c κs =
 -- the end that was found in a window
 ends : (c : tie.After-end-in-window Inv-loop μ-loop) →
     let args = c .before .before .before .before .before .args in
-    c .end-in-window .result ≡ min window (run (member (args .class)) (drop (c .before .before .before .loop .n) (args .text .now)))
+    c .end-in-window .result ≡ min (args .size) (run (member (args .class)) (drop (c .before .before .before .loop .n) (args .text .now)))
 ends c =
     let args = c .before .before .before .before .before .args in
-    c .end-in-window .ensures ∙ ap (λ (l : List ℕ). min window (run (member (args .class)) l)) (rest (args .text .now) (c .before .before .before .loop .n))
+    c .end-in-window .ensures ∙ ap (λ (l : List ℕ). min (args .size) (run (member (args .class)) l)) (rest (args .text .now) (c .before .before .before .loop .n))
 
-moved : (c : tie.After-end-in-window Inv-loop μ-loop) →
-    let args = c .before .before .before .before .before .args in
-    Passed (member (args .class)) (args .text .now) (c .before .before .before .loop .n + c .end-in-window .result)
-moved c = passed-block _ _ (omega (arith, ends c)) (c .before .before .before .loop .inv)
-
-add-n : tie.Need-add-n Inv-loop μ-loop
-add-n c = let w = moved c .within in search needs
+add-result : tie.Need-add-result Inv-loop μ-loop
+add-result c =
+    let loop = c .before .before .before .before in
+    let args = loop .before .before .args in
+    let rest = drop (loop .loop .n) (args .text .now) in
+    omega (arith, ends (c .before), run-within (member (args .class)) rest, length-drop (loop .loop .n) (args .text .now), loop .loop .inv .within)
 
 returns : tie.Need-returns Inv-loop μ-loop
 returns c = omega (arith, ends (c .before), c .if1 .taken, c .before .before .before .before .loop .inv .so-far)
 
-loop-less : tie.Need-loop-less Inv-loop μ-loop
-loop-less c = omega (arith, moved (c .before) .within, c .if1 .left)
+-- a window in which the run does not end
+moved : (c : tie.Else1 Inv-loop μ-loop) →
+    let args = c .before .before .before .before .before .before .args in
+    Passed (member (args .class)) (args .text .now) (c .before .before .before .before .loop .n + args .size)
+moved c = passed-block _ _ (omega (arith, ends (c .before), c .if1 .left)) (c .before .before .before .before .loop .inv)
 
-loop-again : tie.Need-loop-again Inv-loop μ-loop
-loop-again c = moved (c .before)
+loop-less : tie.Need-loop-less Inv-loop μ-loop
+loop-less c = omega (arith, moved c .within, c .before .before .before .before .before .before .pre)
 
 returns-2 : tie.Need-returns-2 Inv-loop μ-loop
 returns-2 c = c .past-run .ensures ∙ sym (c .before .before .loop .inv .so-far)
@@ -61,16 +63,15 @@ run-by-windows-spec =
     Inv-loop
     μ-loop
     (λ c. passed-none _ _)
-    (λ c. search needs)
     (λ c. c .loop .inv .within)
     (λ c. search needs)
     (λ c. search needs)
     (λ c. search needs)
     end-in-window-requires
-    add-n
-    (λ c. search needs)
+    add-result
     returns
+    (λ c. let w = moved c .within in search needs)
     loop-less
-    loop-again
+    moved
     (λ c κs. c .before .loop .inv .within)
     returns-2)

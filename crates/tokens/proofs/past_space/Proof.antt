@@ -43,12 +43,12 @@ returns-2 c =
     omega arith
 
 -- what was counted is the run in the rest of the text
-passed : (c : tie.After-run-by-blocks) →
+passed : (c : tie.After-space-run) →
     let args = c .before .before .before .before .before .before .before .args in
-    c .run-by-blocks .result ≡ run space (drop (args .place) (args .text .now))
+    c .space-run .result ≡ run space (drop (args .place) (args .text .now))
 passed c =
     let args = c .before .before .before .before .before .before .before .args in
-    c .run-by-blocks .ensures ∙ ap (run space) (rest (args .text .now) (args .place))
+    c .space-run .ensures ∙ ap (run space) (rest (args .text .now) (args .place))
 
 add-result-2 : tie.Need-add-result-2
 add-result-2 c =

@@ -15,22 +15,22 @@ use Rattle.words.proofs.word.Tie as tie
 slice-aggregate-sorted : tie.Need-slice-aggregate-sorted
 slice-aggregate-sorted c =
     let bs = c .before .before .before .args .bs .now in
-    let n : c .before .run-by-windows .result ≤ length bs = rw (c .before .run-by-windows .ensures) (run-within wordly bs) in
-    sym (length-take-le (c .before .run-by-windows .result) bs n)
+    let n : c .before .word-run .result ≤ length bs = rw (c .before .word-run .ensures) (run-within wordly bs) in
+    sym (length-take-le (c .before .word-run .result) bs n)
 
 -- the word starts with the text's first byte
 sorted-requires : tie.Need-sorted-requires
 sorted-requires c κs =
     let start = c .before .before .before in
     let bs = start .args .bs .now in
-    let n : 0 < c .before .run-by-windows .result = rw (c .before .run-by-windows .ensures) (begun bs (start .pre .1)) in
-    (start .pre .0, ap letter (getD-take (c .before .run-by-windows .result) bs 0 256 n) ∙ start .pre .1)
+    let n : 0 < c .before .word-run .result = rw (c .before .word-run .ensures) (begun bs (start .pre .1)) in
+    (start .pre .0, ap letter (getD-take (c .before .word-run .result) bs 0 256 n) ∙ start .pre .1)
 
 returns : tie.Need-returns
 unfolding word spelled
 returns c =
     let bs = c .before .before .before .before .args .bs .now in
-    c .sorted .ensures ∙ ap (λ (n : ℕ). sorted (take n bs) (length (take n bs))) (c .before .before .run-by-windows .ensures)
+    c .sorted .ensures ∙ ap (λ (n : ℕ). sorted (take n bs) (length (take n bs))) (c .before .before .word-run .ensures)
     ∙ ap (sorted (spelled bs)) (length-take-le (run wordly bs) bs (run-within wordly bs))
 
 pub word-spec : {M : Type 1} → statement M
