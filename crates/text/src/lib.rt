@@ -206,11 +206,8 @@ fn end_in_window(class: Class, size: u8, text: &[u8]) -> usize
     let mut end = size;
     let mut k = 0;
     while k < size {
-        let place = if is_in(class, text[k as usize]) {
-            size
-        } else {
-            k
-        };
+        let inside = is_in(class, text[k as usize]);
+        let place = if inside { size } else { k };
         end = lesser(place, end);
         k += 1;
     }
