@@ -2,6 +2,7 @@
 
 pub mod cases;
 pub mod chart;
+pub mod corpus;
 pub mod damage;
 pub mod grammar;
 pub mod kind;

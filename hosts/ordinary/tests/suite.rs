@@ -6,6 +6,8 @@ use ordinary as reader;
 mod chart;
 #[path = "../../suite/common.rs"]
 mod common;
+#[path = "../../suite/corpus.rs"]
+mod corpus;
 #[path = "../../suite/derivations.rs"]
 mod derivations;
 #[path = "../../suite/edges.rs"]

@@ -9,6 +9,9 @@ mod chart;
 #[path = "../../suite/common.rs"]
 mod common;
 #[cfg(feature = "tree")]
+#[path = "../../suite/corpus.rs"]
+mod corpus;
+#[cfg(feature = "tree")]
 #[path = "../../suite/derivations.rs"]
 mod derivations;
 #[cfg(feature = "tree")]

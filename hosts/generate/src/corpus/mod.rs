@@ -1,0 +1,62 @@
+//! Texts of the kinds that people write, to time and count by. They are made from the templates here and not from the
+//! rules as data, so that a text stays as it is when the rules change.
+
+mod corba;
+mod data;
+mod names;
+mod space;
+mod strings;
+mod words;
+
+use crate::random::Random;
+
+/// A kind of text: what stands at its start, some definition with its line end, and what stands at its end.
+pub struct Corpus {
+    pub name: &'static str,
+    opening: &'static str,
+    definition: fn(&mut Random) -> String,
+    closing: &'static str,
+}
+
+pub const CORPORA: [Corpus; 5] = [corba::CORPUS, data::CORPUS, words::CORPUS, space::CORPUS, strings::CORPUS];
+
+/// A file as people ship them: the messages of a counter-top scanner.
+pub const SCANNER: &[u8] = include_bytes!("../../../samples/scanner.idl");
+
+/// After so many definitions that have no room, a text ends.
+const TRIALS: usize = 100;
+
+impl Corpus {
+    /// A text of at most this many bytes, and of not many fewer; `size` is 1024 or more.
+    pub fn text(&self, size: usize) -> Vec<u8> {
+        let mut random = Random::new(1);
+        let mut text = latin_1(self.opening);
+        let mut trials = 0;
+        while trials < TRIALS {
+            let definition = latin_1(&(self.definition)(&mut random));
+            if text.len() + definition.len() + self.closing.len() <= size {
+                text.extend(definition);
+            } else {
+                trials += 1;
+            }
+        }
+        text.extend(latin_1(self.closing));
+        text
+    }
+}
+
+/// The bytes of these characters in ISO Latin-1, IDL's character set.
+fn latin_1(text: &str) -> Vec<u8> {
+    text.chars().map(|character| u8::try_from(character).expect("a Latin-1 character")).collect()
+}
+
+/// So many lines or other parts, one after the other; `least` at least and `most` at most.
+fn some(random: &mut Random, least: usize, most: usize, part: impl Fn(&mut Random) -> String) -> String {
+    (0..least + random.below(most - least + 1)).map(|_| part(random)).collect()
+}
+
+/// So many parts with commas between them.
+fn list(random: &mut Random, least: usize, most: usize, part: impl Fn(&mut Random) -> String) -> String {
+    let parts: Vec<String> = (0..least + random.below(most - least + 1)).map(|_| part(random)).collect();
+    parts.join(", ")
+}
