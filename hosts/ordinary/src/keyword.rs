@@ -1,5 +1,6 @@
 //! Which words are keywords.
 
+use crate::block;
 use crate::kind;
 
 /// The keywords in byte order of their spelling, which is the order of their kinds.
@@ -54,8 +55,6 @@ pub const KEYWORDS: [&str; 48] = [
     "wstring",
 ];
 
-const LONGEST: usize = 11;
-
 /// What the word test says of a word.
 #[derive(Clone, Copy, Debug, PartialEq, Eq)]
 pub enum Word {
@@ -65,44 +64,67 @@ pub enum Word {
     Identifier,
 }
 
-/// For a length and a first letter, case aside, the keywords of that length and letter: never more than three.
-/// An entry is a place in `KEYWORDS` plus one; 0 is no keyword.
-static CANDIDATES: [[[u8; 3]; 26]; LONGEST + 1] = candidates();
-
-const fn candidates() -> [[[u8; 3]; 26]; LONGEST + 1] {
-    let mut found = [[[0; 3]; 26]; LONGEST + 1];
-    let mut index = 0;
-    while index < KEYWORDS.len() {
-        let spelling = KEYWORDS[index].as_bytes();
-        let letter = (spelling[0].to_ascii_lowercase() - b'a') as usize;
-        let mut slot = 0;
-        while found[spelling.len()][letter][slot] != 0 {
-            slot += 1;
-        }
-        found[spelling.len()][letter][slot] = index as u8 + 1;
-        index += 1;
-    }
-    found
+/// A word of at most sixteen bytes as two blocks, with zeros after its last byte.
+#[derive(Clone, Copy, PartialEq, Eq)]
+pub struct Spelling {
+    pub first: u64,
+    pub second: u64,
 }
 
-/// Sorts a word, which starts with a letter.
-pub fn sort(word: &[u8]) -> Word {
-    if word.len() > LONGEST {
-        return Word::Identifier;
+#[derive(Clone, Copy)]
+struct Keyword {
+    spelling: Spelling,
+    kind: u32,
+}
+
+const SLOTS_LOG: u32 = 8;
+const SLOTS: usize = 1 << SLOTS_LOG;
+/// Found by trial: it gives each keyword a slot of its own.
+const MULTIPLIER: u64 = 0xa3df_7f35_1260_56ed;
+
+/// The keywords, each at its slot.
+static TABLE: [Keyword; SLOTS] = table();
+
+/// The slot of a word, by its first eight bytes, case aside.
+#[inline]
+const fn slot(first: u64) -> usize {
+    (block::small(first).wrapping_mul(MULTIPLIER) >> (u64::BITS - SLOTS_LOG)) as usize
+}
+
+const fn table() -> [Keyword; SLOTS] {
+    let none = Keyword { spelling: Spelling { first: 0, second: 0 }, kind: 0 };
+    let mut table = [none; SLOTS];
+    let mut index = 0;
+    while index < KEYWORDS.len() {
+        let spelling = spelling(KEYWORDS[index].as_bytes());
+        let slot = slot(spelling.first);
+        assert!(table[slot].kind == 0, "two keywords share a slot: choose another multiplier");
+        table[slot] = Keyword { spelling, kind: kind::FIRST_KEYWORD + index as u32 };
+        index += 1;
     }
-    let letter = (word[0].to_ascii_lowercase() - b'a') as usize;
-    for &entry in &CANDIDATES[word.len()][letter] {
-        if entry == 0 {
-            break;
-        }
-        let index = entry as usize - 1;
-        let spelling = KEYWORDS[index].as_bytes();
-        if word == spelling {
-            return Word::Keyword(kind::FIRST_KEYWORD + index as u32);
-        }
-        if word.eq_ignore_ascii_case(spelling) {
-            return Word::KeywordInAnotherCase;
-        }
+    table
+}
+
+const fn spelling(word: &[u8]) -> Spelling {
+    let mut blocks = [[0; block::SIZE]; 2];
+    let mut place = 0;
+    while place < word.len() {
+        blocks[place / block::SIZE][place % block::SIZE] = word[place];
+        place += 1;
+    }
+    Spelling { first: u64::from_le_bytes(blocks[0]), second: u64::from_le_bytes(blocks[1]) }
+}
+
+/// Sorts a word.
+#[inline]
+pub fn sort(word: Spelling) -> Word {
+    let keyword = &TABLE[slot(word.first)];
+    if word == keyword.spelling {
+        return Word::Keyword(keyword.kind);
+    }
+    let differing = (word.first ^ keyword.spelling.first) | (word.second ^ keyword.spelling.second);
+    if block::small(differing) == block::small(0) {
+        return Word::KeywordInAnotherCase;
     }
     Word::Identifier
 }

@@ -12,6 +12,10 @@
 //! assert_eq!(ordinary::spelling(b"native A;", &tokens, 1), b"A");
 //! ```
 
+#![forbid(unsafe_code)]
+
+mod block;
+mod class;
 pub mod keyword;
 pub mod kind;
 pub mod number;

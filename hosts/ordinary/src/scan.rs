@@ -1,6 +1,8 @@
 //! From bytes to tokens.
 
-use crate::keyword::{self, Word};
+use crate::block;
+use crate::class::{Class, CLASSES};
+use crate::keyword::{self, Spelling, Word};
 use crate::kind;
 use crate::number;
 
@@ -20,12 +22,36 @@ pub fn scan(text: &[u8], tokens: &mut [u32]) -> Result<usize, Fault> {
     let mut count = 0;
     let mut at = 0;
     loop {
-        at = skip_blanks(text, at)?;
         let first = match text.get(at) {
             Some(&first) => first,
             None => return Ok(count),
         };
-        let (kind, end) = lexeme(text, at, first)?;
+        let (kind, end) = match CLASSES[first as usize] {
+            Class::Blank => {
+                at = skip_blanks(text, at + 1);
+                continue;
+            }
+            Class::Letter => word(text, at, first)?,
+            Class::Mark(kind) => (u32::from(kind), at + 1),
+            Class::Pair(_, twice) if text.get(at + 1) == Some(&first) => (u32::from(twice), at + 2),
+            Class::Pair(once, _) => (u32::from(once), at + 1),
+            Class::Slash => match text.get(at + 1) {
+                Some(b'/') => {
+                    at = block::skip(text, at + 2, block::in_line);
+                    continue;
+                }
+                Some(b'*') => {
+                    at = comment_end(text, at)?;
+                    continue;
+                }
+                _ => (kind::SLASH, at + 1),
+            },
+            Class::Underscore => escaped_identifier(text, at)?,
+            Class::Digit => numeral(text, at)?,
+            Class::Point if text.get(at + 1).map_or(false, u8::is_ascii_digit) => numeral(text, at)?,
+            Class::Quote => quoted(text, at, at)?,
+            Class::Point | Class::None => return Err(no_lexeme(at)),
+        };
         if let Some(record) = records.next() {
             record.copy_from_slice(&[kind, at as u32, (end - at) as u32]);
         }
@@ -34,46 +60,37 @@ pub fn scan(text: &[u8], tokens: &mut [u32]) -> Result<usize, Fault> {
     }
 }
 
-/// The place of the next byte that is neither white space nor in a comment.
-fn skip_blanks(text: &[u8], start: usize) -> Result<usize, Fault> {
-    let mut at = start;
-    loop {
-        match text.get(at) {
-            Some(9..=13 | 32) => at += 1,
-            Some(b'/') => match text.get(at + 1) {
-                Some(b'/') => at = skip(text, at + 2, |byte| byte != 10 && byte != 13),
-                Some(b'*') => at = comment_end(text, at)?,
-                _ => return Ok(at),
-            },
-            _ => return Ok(at),
-        }
+/// The first place from `start` on without white space.
+#[inline]
+fn skip_blanks(text: &[u8], start: usize) -> usize {
+    if !text.get(start).map_or(false, is_blank) {
+        return start;
     }
+    block::skip(text, start + 1, block::blanks)
+}
+
+fn is_blank(byte: &u8) -> bool {
+    CLASSES[*byte as usize] == Class::Blank
 }
 
 /// The place after the comment that starts here with `/*`.
 fn comment_end(text: &[u8], start: usize) -> Result<usize, Fault> {
-    let body = start + 2;
-    match text[body..].windows(2).position(|pair| pair == b"*/") {
-        Some(length) => Ok(body + length + 2),
-        None => Err(open_at_end(start)),
-    }
-}
-
-fn lexeme(text: &[u8], start: usize, first: u8) -> Lexeme {
-    let next = text.get(start + 1).copied();
-    match first {
-        b'L' if matches!(next, Some(b'\'' | b'"')) => quoted(text, start, start + 1),
-        b'A'..=b'Z' | b'a'..=b'z' => word(text, start),
-        b'_' => escaped_identifier(text, start, next),
-        b'0'..=b'9' => numeral(text, start),
-        b'.' if matches!(next, Some(b'0'..=b'9')) => numeral(text, start),
-        b'\'' | b'"' => quoted(text, start, start),
-        _ => mark(first, next, start),
+    let mut at = start + 3;
+    loop {
+        // A slash is rarer in a comment than a star.
+        at = block::find(text, at, b'/');
+        if at >= text.len() {
+            return Err(open_at_end(start));
+        }
+        if text[at - 1] == b'*' {
+            return Ok(at + 1);
+        }
+        at += 1;
     }
 }
 
 /// The first place from `start` on whose byte fails the test, or the end.
-pub fn skip(text: &[u8], start: usize, test: impl Fn(u8) -> bool) -> usize {
+fn skip(text: &[u8], start: usize, test: impl Fn(u8) -> bool) -> usize {
     let mut at = start;
     while at < text.len() && test(text[at]) {
         at += 1;
@@ -81,35 +98,44 @@ pub fn skip(text: &[u8], start: usize, test: impl Fn(u8) -> bool) -> usize {
     at
 }
 
-/// For each byte, whether it goes on a word: a letter, a digit or an underscore.
-static WORD_BYTES: [bool; 256] = word_bytes();
-
-const fn word_bytes() -> [bool; 256] {
-    let mut found = [false; 256];
-    let mut byte = 0;
-    while byte < found.len() {
-        found[byte] = (byte as u8).is_ascii_alphanumeric() || byte as u8 == b'_';
-        byte += 1;
-    }
-    found
-}
-
 fn is_word_byte(byte: u8) -> bool {
-    WORD_BYTES[byte as usize]
+    byte.is_ascii_alphanumeric() || byte == b'_'
 }
 
-fn word(text: &[u8], start: usize) -> Lexeme {
-    let end = skip(text, start + 1, is_word_byte);
-    match keyword::sort(&text[start..end]) {
+/// A word, or a wide literal.
+#[inline]
+fn word(text: &[u8], start: usize, first: u8) -> Lexeme {
+    let block = block::at(text, start);
+    let length = block::word_bytes(block);
+    if length < block::SIZE {
+        if first == b'L' && length == 1 && matches!(text.get(start + 1), Some(b'\'' | b'"')) {
+            return quoted(text, start, start + 1);
+        }
+        return sorted(Spelling { first: block::head(block, length), second: 0 }, start, start + length);
+    }
+    let second = block::at(text, start + block::SIZE);
+    let length = block::word_bytes(second);
+    let end = start + block::SIZE + length;
+    if length < block::SIZE {
+        return sorted(Spelling { first: block, second: block::head(second, length) }, start, end);
+    }
+    Ok((kind::IDENTIFIER, block::skip(text, end, block::word_bytes)))
+}
+
+#[inline]
+fn sorted(spelling: Spelling, start: usize, end: usize) -> Lexeme {
+    match keyword::sort(spelling) {
         Word::Keyword(kind) => Ok((kind, end)),
         Word::Identifier => Ok((kind::IDENTIFIER, end)),
         Word::KeywordInAnotherCase => Err(Fault { number: number::KEYWORD_CASE, place: start }),
     }
 }
 
-fn escaped_identifier(text: &[u8], start: usize, next: Option<u8>) -> Lexeme {
-    match next {
-        Some(byte) if byte.is_ascii_alphabetic() => Ok((kind::IDENTIFIER, skip(text, start + 2, is_word_byte))),
+fn escaped_identifier(text: &[u8], start: usize) -> Lexeme {
+    match text.get(start + 1) {
+        Some(byte) if byte.is_ascii_alphabetic() => {
+            Ok((kind::IDENTIFIER, block::skip(text, start + 2, block::word_bytes)))
+        }
         _ => Err(no_lexeme(start)),
     }
 }
@@ -171,6 +197,9 @@ fn quoted(text: &[u8], start: usize, open: usize) -> Lexeme {
     let mut at = open + 1;
     let mut characters = 0;
     loop {
+        if is_string {
+            at = block::skip(text, at, |block| block::plain(block, quote));
+        }
         let byte = match text.get(at) {
             None | Some(10 | 13) => return Err(open_at_end(start)),
             Some(&byte) => byte,
@@ -241,37 +270,6 @@ fn numbered(text: &[u8], start: usize, limit: usize, radix: u32) -> Result<Chara
         return Err(number::BAD_LITERAL);
     }
     Ok(Character { end, zero: value == 0 })
-}
-
-fn mark(first: u8, next: Option<u8>, start: usize) -> Lexeme {
-    let kind = match (first, next) {
-        (b':', Some(b':')) => return Ok((kind::SCOPE, start + 2)),
-        (b'>', Some(b'>')) => return Ok((kind::SHIFT_RIGHT, start + 2)),
-        (b'<', Some(b'<')) => return Ok((kind::SHIFT_LEFT, start + 2)),
-        (b';', _) => kind::SEMICOLON,
-        (b'{', _) => kind::LEFT_BRACE,
-        (b'}', _) => kind::RIGHT_BRACE,
-        (b':', _) => kind::COLON,
-        (b',', _) => kind::COMMA,
-        (b'=', _) => kind::EQUALS,
-        (b'(', _) => kind::LEFT_PARENTHESIS,
-        (b')', _) => kind::RIGHT_PARENTHESIS,
-        (b'<', _) => kind::LESS,
-        (b'>', _) => kind::GREATER,
-        (b'[', _) => kind::LEFT_BRACKET,
-        (b']', _) => kind::RIGHT_BRACKET,
-        (b'|', _) => kind::BAR,
-        (b'^', _) => kind::CARET,
-        (b'&', _) => kind::AMPERSAND,
-        (b'+', _) => kind::PLUS,
-        (b'-', _) => kind::MINUS,
-        (b'*', _) => kind::STAR,
-        (b'/', _) => kind::SLASH,
-        (b'%', _) => kind::PERCENT,
-        (b'~', _) => kind::TILDE,
-        _ => return Err(no_lexeme(start)),
-    };
-    Ok((kind, start + 1))
 }
 
 fn no_lexeme(place: usize) -> Fault {

@@ -24,8 +24,8 @@ type Parsed = Result<(), Stop>;
 /// The start of a use of a rule: its first token, and the records that stand before its own.
 #[derive(Clone, Copy)]
 struct Node {
-    first: usize,
-    before: usize,
+    first: u32,
+    before: u32,
 }
 
 /// No token: stands for the kind after the last token.
@@ -35,10 +35,10 @@ pub struct Parser<'a> {
     tokens: &'a [u32],
     tree: &'a mut [u32],
     /// The number of the current token, and its kind.
-    at: usize,
+    at: u32,
     kind: u32,
     depth_left: u32,
-    records: usize,
+    records: u32,
 }
 
 impl<'a> Parser<'a> {
@@ -50,21 +50,21 @@ impl<'a> Parser<'a> {
 
     /// The number of the current token: where the parser stopped.
     pub fn at(&self) -> usize {
-        self.at
+        self.at as usize
     }
 
     /// The records of the tree so far, counted also where there was no room.
     pub fn records(&self) -> usize {
-        self.records
+        self.records as usize
     }
 
     fn at_end(&self) -> bool {
-        3 * self.at >= self.tokens.len()
+        3 * self.at() >= self.tokens.len()
     }
 
     fn take(&mut self) {
         self.at += 1;
-        self.kind = self.tokens.get(3 * self.at).copied().unwrap_or(END);
+        self.kind = self.tokens.get(3 * self.at()).copied().unwrap_or(END);
     }
 
     fn expect(&mut self, kind: u32) -> Parsed {
@@ -107,10 +107,9 @@ impl<'a> Parser<'a> {
     }
 
     fn record(&mut self, rule: u32, node: Node) {
-        let start = 4 * self.records;
+        let start = 4 * self.records();
         if let Some(room) = self.tree.get_mut(start..start + 4) {
-            let size = self.records - node.before + 1;
-            room.copy_from_slice(&[rule, node.first as u32, self.at as u32, size as u32]);
+            room.copy_from_slice(&[rule, node.first, self.at, self.records - node.before + 1]);
         }
         self.records += 1;
     }

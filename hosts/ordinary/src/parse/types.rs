@@ -1,6 +1,6 @@
 //! Types and declarators.
 
-use super::{Parsed, Parser, Stop};
+use super::{Node, Parsed, Parser, Stop};
 use crate::kind::*;
 
 /// Whether a struct or union may stand without its body.
@@ -51,6 +51,7 @@ impl Parser<'_> {
     }
 
     /// 45 and 47.
+    #[inline(always)]
     fn simple_type(&mut self) -> Parsed {
         match self.kind {
             SEQUENCE => self.sequence(),
@@ -69,6 +70,7 @@ impl Parser<'_> {
     }
 
     /// 46, or a name.
+    #[inline(always)]
     pub(super) fn base_type_or_name(&mut self) -> Parsed {
         match self.kind {
             IDENTIFIER | SCOPE => self.scoped_name(),
@@ -175,14 +177,21 @@ impl Parser<'_> {
         Ok(())
     }
 
-    /// 50, 52, 83 and 84.
+    /// 50.
+    #[inline(always)]
     fn declarator(&mut self) -> Parsed {
         let node = self.begin();
         self.expect(IDENTIFIER)?;
-        if self.kind != LEFT_BRACKET {
-            self.record(51, node);
-            return Ok(());
+        if self.kind == LEFT_BRACKET {
+            return self.array_sizes(node);
         }
+        self.record(51, node);
+        Ok(())
+    }
+
+    /// 52, 83 and 84, from behind the name.
+    #[inline(never)]
+    fn array_sizes(&mut self, node: Node) -> Parsed {
         while self.kind == LEFT_BRACKET {
             let size = self.begin();
             self.open(LEFT_BRACKET)?;

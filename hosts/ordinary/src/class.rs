@@ -1,0 +1,71 @@
+//! What a lexeme can be, by its first byte.
+
+use crate::kind;
+
+#[derive(Clone, Copy, PartialEq, Eq)]
+pub enum Class {
+    /// White space.
+    Blank,
+    /// A word, or for `L` a wide literal.
+    Letter,
+    /// An identifier that is no keyword.
+    Underscore,
+    Digit,
+    /// A floating or fixed literal.
+    Point,
+    /// A character or string literal.
+    Quote,
+    /// A comment or a mark.
+    Slash,
+    /// A mark of one byte.
+    Mark(u8),
+    /// A mark of this byte alone, or one of this byte twice.
+    Pair(u8, u8),
+    /// No lexeme.
+    None,
+}
+
+pub static CLASSES: [Class; 256] = classes();
+
+const fn classes() -> [Class; 256] {
+    let mut found = [Class::None; 256];
+    let mut byte = 0;
+    while byte < found.len() {
+        found[byte] = class(byte as u8);
+        byte += 1;
+    }
+    found
+}
+
+const fn class(byte: u8) -> Class {
+    match byte {
+        9..=13 | b' ' => Class::Blank,
+        b'A'..=b'Z' | b'a'..=b'z' => Class::Letter,
+        b'_' => Class::Underscore,
+        b'0'..=b'9' => Class::Digit,
+        b'.' => Class::Point,
+        b'\'' | b'"' => Class::Quote,
+        b'/' => Class::Slash,
+        b':' => Class::Pair(kind::COLON as u8, kind::SCOPE as u8),
+        b'<' => Class::Pair(kind::LESS as u8, kind::SHIFT_LEFT as u8),
+        b'>' => Class::Pair(kind::GREATER as u8, kind::SHIFT_RIGHT as u8),
+        b';' => Class::Mark(kind::SEMICOLON as u8),
+        b'{' => Class::Mark(kind::LEFT_BRACE as u8),
+        b'}' => Class::Mark(kind::RIGHT_BRACE as u8),
+        b',' => Class::Mark(kind::COMMA as u8),
+        b'=' => Class::Mark(kind::EQUALS as u8),
+        b'(' => Class::Mark(kind::LEFT_PARENTHESIS as u8),
+        b')' => Class::Mark(kind::RIGHT_PARENTHESIS as u8),
+        b'[' => Class::Mark(kind::LEFT_BRACKET as u8),
+        b']' => Class::Mark(kind::RIGHT_BRACKET as u8),
+        b'|' => Class::Mark(kind::BAR as u8),
+        b'^' => Class::Mark(kind::CARET as u8),
+        b'&' => Class::Mark(kind::AMPERSAND as u8),
+        b'+' => Class::Mark(kind::PLUS as u8),
+        b'-' => Class::Mark(kind::MINUS as u8),
+        b'*' => Class::Mark(kind::STAR as u8),
+        b'%' => Class::Mark(kind::PERCENT as u8),
+        b'~' => Class::Mark(kind::TILDE as u8),
+        _ => Class::None,
+    }
+}
