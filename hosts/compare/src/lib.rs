@@ -5,6 +5,7 @@ use generate::cases::{depth, table_length};
 use generate::{Cases, Grammar, Random};
 use std::fmt::Debug;
 
+pub mod bounds;
 pub mod stack;
 
 /// Number, place and the two counts of a reply.
@@ -14,6 +15,11 @@ pub type Outcome = Result<[usize; 10], String>;
 
 /// The numbers of the ordinary reader's reply.
 pub fn plain(reply: ordinary::Reply) -> Numbers {
+    [reply.number, reply.place, reply.tokens, reply.records]
+}
+
+/// The numbers of the proved reader's reply.
+pub fn plain_proved(reply: idl::raw::Reply) -> Numbers {
     [reply.number, reply.place, reply.tokens, reply.records]
 }
 

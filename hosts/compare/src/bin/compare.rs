@@ -2,7 +2,7 @@
 //!
 //! Usage: compare SEED CASES
 
-use compare::Outcome;
+use compare::{plain_proved, Outcome};
 use std::env;
 use std::process::ExitCode;
 
@@ -21,18 +21,17 @@ fn report(part: &str, outcome: Outcome, replies: &[usize]) -> bool {
 }
 
 fn compare(seed: u64, count: usize) -> bool {
-    let plain = |reply: idl::raw::Reply| [reply.number, reply.place, reply.tokens, reply.records];
-    let tokens = compare::token_part(seed, count, |text, tokens| plain(idl::raw::read_tokens(text, tokens)));
+    let tokens = compare::token_part(seed, count, |text, tokens| plain_proved(idl::raw::read_tokens(text, tokens)));
     let mut agreed = report("token part", tokens, &[0, 1, 2, 3, 4, 5, 6]);
     agreed &= report("spellings", compare::spellings(seed, count, idl::spelling), &[0, 1]);
     #[cfg(feature = "tree")]
     {
         let tree = compare::tree_part(seed, count, |tokens, token_count, text_length, tree, depth| {
-            plain(idl::raw::read_tree(tokens, token_count, text_length, tree, depth))
+            plain_proved(idl::raw::read_tree(tokens, token_count, text_length, tree, depth))
         });
         agreed &= report("tree part", tree, &[0, 1, 7, 8, 9]);
         let whole = compare::whole_reader(seed, count, |text, tokens, tree, depth| {
-            plain(idl::raw::read(text, tokens, tree, depth))
+            plain_proved(idl::raw::read(text, tokens, tree, depth))
         });
         agreed &= report("whole reader", whole, &[0, 1, 2, 3, 4, 5, 6, 7, 8, 9]);
     }

@@ -4,7 +4,7 @@
 //! reader's time over the ordinary one's: that of the best times, and that of the medians. No table is cleared between
 //! calls, since both readers leave the same numbers there.
 
-use compare::{plain, Numbers};
+use compare::{plain, plain_proved, Numbers};
 use generate::corpus::{CORPORA, SCANNER};
 use generate::nest::{nested, WAYS};
 use generate::sentence::Sentences;
@@ -97,10 +97,6 @@ fn time<T>(times: &mut [Vec<f64>; 2], tables: &mut T, calls: [&dyn Fn(&mut T) ->
             times[reader].push(clocked(reader, count).as_secs_f64() * 1e6 / f64::from(count));
         }
     }
-}
-
-fn plain_proved(reply: idl::raw::Reply) -> Numbers {
-    [reply.number, reply.place, reply.tokens, reply.records]
 }
 
 /// Times each part on a text; the tree part only where the text has tokens.

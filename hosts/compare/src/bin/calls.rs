@@ -1,0 +1,54 @@
+//! Calls each part of both readers once on each text and prints, in this order, what it has called. Run by
+//! `hosts/instructions`, which counts the instructions of each call.
+
+use compare::{plain, plain_proved, Numbers};
+use generate::corpus::{CORPORA, SCANNER};
+
+const SIZE: usize = 100 << 10;
+const DEPTH: u32 = 64;
+
+/// What is counted. It is found by its name, so it is never inlined.
+#[no_mangle]
+#[inline(never)]
+pub fn counted_call(call: &mut dyn FnMut() -> Numbers) {
+    assert_eq!(call()[0], ordinary::number::ACCEPTED);
+}
+
+fn count(text: &str, part: &str, mut theirs: impl FnMut() -> Numbers, mut ours: impl FnMut() -> Numbers) {
+    counted_call(&mut theirs);
+    println!("{text} {part} ordinary");
+    counted_call(&mut ours);
+    println!("{text} {part} proved");
+}
+
+fn count_parts(name: &str, text: &[u8]) {
+    let length = text.len();
+    let count_of_tokens = ordinary::read_tokens(text, &mut []).tokens as usize;
+    let (mut tokens, mut tree) = (vec![0; 3 * count_of_tokens], vec![0; 8 * count_of_tokens]);
+    let (mut other_tokens, mut other_tree) = (tokens.clone(), tree.clone());
+    count(
+        name,
+        "tokens",
+        || plain(ordinary::read_tokens(text, &mut tokens)),
+        || plain_proved(idl::raw::read_tokens(text, &mut other_tokens)),
+    );
+    count(
+        name,
+        "tree",
+        || plain(ordinary::read_tree(&tokens, count_of_tokens, length, &mut tree, DEPTH)),
+        || plain_proved(idl::raw::read_tree(&other_tokens, count_of_tokens, length, &mut other_tree, DEPTH)),
+    );
+    count(
+        name,
+        "whole",
+        || plain(ordinary::read(text, &mut tokens, &mut tree, DEPTH)),
+        || plain_proved(idl::raw::read(text, &mut other_tokens, &mut other_tree, DEPTH)),
+    );
+}
+
+fn main() {
+    for corpus in &CORPORA {
+        count_parts(corpus.name, &corpus.text(SIZE));
+    }
+    count_parts("scanner.idl", SCANNER);
+}

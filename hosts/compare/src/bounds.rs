@@ -1,0 +1,64 @@
+//! Counts of instructions held against their bounds.
+//!
+//! A count is a line of text, part, reader and number, as in `corba tokens proved 1000000`; a bound is a line of text,
+//! part and number. Lines that start with `#` are passed over.
+
+use std::collections::BTreeMap;
+
+/// How far a new bound lies above its count, in percent.
+const ROOM: u64 = 3;
+/// How far a count may lie below its bound, in percent.
+const SLACK: u64 = 10;
+
+/// Numbers by what stands before them, a text and a part, and for a count the reader.
+type Numbers = BTreeMap<String, u64>;
+
+fn numbers(lines: &str) -> Result<Numbers, String> {
+    let mut numbers = Numbers::new();
+    for line in lines.lines().filter(|line| !line.starts_with('#')) {
+        let (name, number) = line.rsplit_once(' ').ok_or(format!("no number: {line}"))?;
+        let number = number.parse().map_err(|_| format!("no number: {line}"))?;
+        if numbers.insert(name.to_string(), number).is_some() {
+            return Err(format!("there twice: {name}"));
+        }
+    }
+    Ok(numbers)
+}
+
+/// The counts of one reader, by text and part.
+fn counts(lines: &str, reader: &str) -> Result<Numbers, String> {
+    let of_reader = |(name, count): (String, u64)| Some((name.strip_suffix(reader)?.trim_end().to_string(), count));
+    Ok(numbers(lines)?.into_iter().filter_map(of_reader).collect())
+}
+
+/// The lines of new bounds for these counts.
+pub fn write(count_lines: &str) -> Result<String, String> {
+    let bound = |(name, count): (String, u64)| format!("{name} {}\n", count + count * ROOM / 100);
+    Ok(counts(count_lines, "proved")?.into_iter().map(bound).collect())
+}
+
+/// A table of the counts, and what is wrong with them or with the bounds.
+pub fn check(count_lines: &str, bound_lines: &str) -> Result<(String, Vec<String>), String> {
+    let [ordinary, proved] = [counts(count_lines, "ordinary")?, counts(count_lines, "proved")?];
+    let bounds = numbers(bound_lines)?;
+    let mut table = String::from("| Text | Part | Ordinary | Proved | Ratio | Bound |\n|---|---|---|---|---|---|\n");
+    let mut wrong = Vec::new();
+    for (name, &count) in &proved {
+        let bound = bounds.get(name).copied();
+        let theirs = ordinary.get(name).copied().unwrap_or(0);
+        let ratio = count as f64 / theirs as f64;
+        let stated = bound.map_or("none".to_string(), |bound| bound.to_string());
+        table += &format!("| {} | {theirs} | {count} | {ratio:.2} | {stated} |\n", name.replace(' ', " | "));
+        match bound {
+            None => wrong.push(format!("{name}: no bound")),
+            Some(bound) if count > bound => wrong.push(format!("{name}: {count} is above the bound {bound}")),
+            Some(bound) if count < bound - bound * SLACK / 100 => {
+                wrong.push(format!("{name}: {count} is more than {SLACK}% below the bound {bound}: lower the bound"))
+            }
+            Some(_) => {}
+        }
+    }
+    let uncounted = bounds.keys().filter(|name| !proved.contains_key(*name));
+    wrong.extend(uncounted.map(|name| format!("{name}: a bound, but no count")));
+    Ok((table, wrong))
+}
