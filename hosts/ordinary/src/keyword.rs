@@ -58,10 +58,10 @@ pub const KEYWORDS: [&str; 48] = [
 /// What the word test says of a word.
 #[derive(Clone, Copy, Debug, PartialEq, Eq)]
 pub enum Word {
-    Keyword(u32),
+    /// A keyword or an identifier.
+    Kind(u32),
     /// Differs from a keyword only in the case of letters.
     KeywordInAnotherCase,
-    Identifier,
 }
 
 /// A word of at most sixteen bytes as two blocks, with zeros after its last byte.
@@ -77,10 +77,10 @@ struct Keyword {
     kind: u32,
 }
 
-const SLOTS_LOG: u32 = 8;
+const SLOTS_LOG: u32 = 7;
 const SLOTS: usize = 1 << SLOTS_LOG;
 /// Found by trial: it gives each keyword a slot of its own.
-const MULTIPLIER: u64 = 0xa3df_7f35_1260_56ed;
+const MULTIPLIER: u64 = 0x3bae_8d41_061e_c1bf;
 
 /// The keywords, each at its slot.
 static TABLE: [Keyword; SLOTS] = table();
@@ -119,12 +119,9 @@ const fn spelling(word: &[u8]) -> Spelling {
 #[inline]
 pub fn sort(word: Spelling) -> Word {
     let keyword = &TABLE[slot(word.first)];
-    if word == keyword.spelling {
-        return Word::Keyword(keyword.kind);
-    }
     let differing = (word.first ^ keyword.spelling.first) | (word.second ^ keyword.spelling.second);
-    if block::small(differing) == block::small(0) {
+    if (differing != 0) & (block::small(differing) == block::small(0)) {
         return Word::KeywordInAnotherCase;
     }
-    Word::Identifier
+    Word::Kind(if differing == 0 { keyword.kind } else { kind::IDENTIFIER })
 }

@@ -125,8 +125,7 @@ fn word(text: &[u8], start: usize, first: u8) -> Lexeme {
 #[inline]
 fn sorted(spelling: Spelling, start: usize, end: usize) -> Lexeme {
     match keyword::sort(spelling) {
-        Word::Keyword(kind) => Ok((kind, end)),
-        Word::Identifier => Ok((kind::IDENTIFIER, end)),
+        Word::Kind(kind) => Ok((kind, end)),
         Word::KeywordInAnotherCase => Err(Fault { number: number::KEYWORD_CASE, place: start }),
     }
 }
