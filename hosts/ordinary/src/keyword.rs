@@ -55,17 +55,8 @@ pub const KEYWORDS: [&str; 48] = [
     "wstring",
 ];
 
-/// What the word test says of a word.
-#[derive(Clone, Copy, Debug, PartialEq, Eq)]
-pub enum Word {
-    /// A keyword or an identifier.
-    Kind(u32),
-    /// Differs from a keyword only in the case of letters.
-    KeywordInAnotherCase,
-}
-
-/// A word of at most sixteen bytes as two blocks, with zeros after its last byte.
-#[derive(Clone, Copy, PartialEq, Eq)]
+/// A word of fewer than sixteen bytes as two blocks, with zeros after its last byte.
+#[derive(Clone, Copy)]
 pub struct Spelling {
     pub first: u64,
     pub second: u64,
@@ -115,13 +106,14 @@ const fn spelling(word: &[u8]) -> Spelling {
     Spelling { first: u64::from_le_bytes(blocks[0]), second: u64::from_le_bytes(blocks[1]) }
 }
 
-/// Sorts a word.
+/// The kind of a word; none if it differs from a keyword only in the case of letters.
 #[inline]
-pub fn sort(word: Spelling) -> Word {
+pub fn kind_of(word: Spelling) -> Option<u32> {
     let keyword = &TABLE[slot(word.first)];
     let differing = (word.first ^ keyword.spelling.first) | (word.second ^ keyword.spelling.second);
-    if (differing != 0) & (block::small(differing) == block::small(0)) {
-        return Word::KeywordInAnotherCase;
+    let only_in_case = block::small(differing) == block::small(0);
+    if only_in_case & (differing != 0) {
+        return None;
     }
-    Word::Kind(if differing == 0 { keyword.kind } else { kind::IDENTIFIER })
+    Some(if differing == 0 { keyword.kind } else { kind::IDENTIFIER })
 }

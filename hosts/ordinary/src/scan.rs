@@ -2,7 +2,7 @@
 
 use crate::block;
 use crate::class::{Class, CLASSES};
-use crate::keyword::{self, Spelling, Word};
+use crate::keyword::{self, Spelling};
 use crate::kind;
 use crate::number;
 
@@ -111,22 +111,23 @@ fn word(text: &[u8], start: usize, first: u8) -> Lexeme {
         if first == b'L' && length == 1 && matches!(text.get(start + 1), Some(b'\'' | b'"')) {
             return quoted(text, start, start + 1);
         }
-        return sorted(Spelling { first: block::head(block, length), second: 0 }, start, start + length);
+        return spelled(Spelling { first: block::head(block, length), second: 0 }, start, start + length);
     }
     let second = block::at(text, start + block::SIZE);
     let length = block::word_bytes(second);
     let end = start + block::SIZE + length;
     if length < block::SIZE {
-        return sorted(Spelling { first: block, second: block::head(second, length) }, start, end);
+        return spelled(Spelling { first: block, second: block::head(second, length) }, start, end);
     }
     Ok((kind::IDENTIFIER, block::skip(text, end, block::word_bytes)))
 }
 
+/// A word as it is spelled.
 #[inline]
-fn sorted(spelling: Spelling, start: usize, end: usize) -> Lexeme {
-    match keyword::sort(spelling) {
-        Word::Kind(kind) => Ok((kind, end)),
-        Word::KeywordInAnotherCase => Err(Fault { number: number::KEYWORD_CASE, place: start }),
+fn spelled(spelling: Spelling, start: usize, end: usize) -> Lexeme {
+    match keyword::kind_of(spelling) {
+        Some(kind) => Ok((kind, end)),
+        None => Err(Fault { number: number::KEYWORD_CASE, place: start }),
     }
 }
 
