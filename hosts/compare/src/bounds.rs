@@ -28,7 +28,11 @@ fn numbers(lines: &str) -> Result<Numbers, String> {
 /// The counts of one reader, by text and part.
 fn counts(lines: &str, reader: &str) -> Result<Numbers, String> {
     let of_reader = |(name, count): (String, u64)| Some((name.strip_suffix(reader)?.trim_end().to_string(), count));
-    Ok(numbers(lines)?.into_iter().filter_map(of_reader).collect())
+    let counts: Numbers = numbers(lines)?.into_iter().filter_map(of_reader).collect();
+    if counts.is_empty() {
+        return Err(format!("no counts of the {reader} reader"));
+    }
+    Ok(counts)
 }
 
 /// The lines of new bounds for these counts.

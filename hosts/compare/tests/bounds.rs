@@ -47,4 +47,6 @@ fn lines_that_cannot_be_read_fail() {
     assert!(check(COUNTS, "corba tokens\n").is_err());
     assert!(check(COUNTS, "corba tokens 1\ncorba tokens 1\n").is_err());
     assert!(check("corba tokens proved \n", "corba tokens 1\n").is_err());
+    assert!(check("", "").is_err());
+    assert!(write("").is_err());
 }

@@ -143,7 +143,11 @@ fn best_and_median(times: &[f64]) -> [f64; 2] {
 
 /// A time with the figures that can mean something.
 fn figures(time: f64) -> String {
-    let decimals = if time < 10.0 { 2 } else { 0 };
+    let decimals = match time {
+        time if time < 10.0 => 2,
+        time if time < 100.0 => 1,
+        _ => 0,
+    };
     format!("{time:.decimals$}")
 }
 

@@ -1,7 +1,7 @@
 //! As the definitions of the CORBA services: a licence, modules of interfaces, block comments over several lines.
 
 use super::names::{basic_type, constant_name, member_name, type_name};
-use super::{list, some, Corpus};
+use super::{list, parts, some, Corpus};
 use crate::random::Random;
 
 pub const CORPUS: Corpus = Corpus { name: "corba", opening: OPENING, definition, closing: "};\n" };
@@ -48,13 +48,12 @@ fn interface(random: &mut Random) -> String {
 
 fn operation(random: &mut Random) -> String {
     let result = if random.once_in(2) { "void".to_string() } else { parameter_type(random) };
-    let parameters: Vec<String> = (0..random.below(4)).map(|_| parameter(random)).collect();
+    let parameters = parts(random, 0, 3, parameter).join(",\n            ");
     let raises = match random.below(2) {
         0 => format!("\n            raises ({})", list(random, 1, 3, scoped_name)),
         _ => String::new(),
     };
-    let between = ",\n            ";
-    format!("        {result} {}({}){raises};\n\n", member_name(random), parameters.join(between))
+    format!("        {result} {}({parameters}){raises};\n\n", member_name(random))
 }
 
 fn parameter(random: &mut Random) -> String {

@@ -50,13 +50,17 @@ fn latin_1(text: &str) -> Vec<u8> {
     text.chars().map(|character| u8::try_from(character).expect("a Latin-1 character")).collect()
 }
 
-/// So many lines or other parts, one after the other; `least` at least and `most` at most.
-fn some(random: &mut Random, least: usize, most: usize, part: impl Fn(&mut Random) -> String) -> String {
+/// So many parts: `least` at least and `most` at most.
+fn parts(random: &mut Random, least: usize, most: usize, part: impl Fn(&mut Random) -> String) -> Vec<String> {
     (0..least + random.below(most - least + 1)).map(|_| part(random)).collect()
+}
+
+/// So many parts, one after the other.
+fn some(random: &mut Random, least: usize, most: usize, part: impl Fn(&mut Random) -> String) -> String {
+    parts(random, least, most, part).concat()
 }
 
 /// So many parts with commas between them.
 fn list(random: &mut Random, least: usize, most: usize, part: impl Fn(&mut Random) -> String) -> String {
-    let parts: Vec<String> = (0..least + random.below(most - least + 1)).map(|_| part(random)).collect();
-    parts.join(", ")
+    parts(random, least, most, part).join(", ")
 }
