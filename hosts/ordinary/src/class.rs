@@ -1,4 +1,4 @@
-//! What a lexeme can be, by its first byte.
+//! Tables over the bytes: what a lexeme can be by its first byte, and what stands for itself in a string.
 
 use crate::kind;
 
@@ -68,4 +68,22 @@ const fn class(byte: u8) -> Class {
         b'~' => Class::Mark(kind::TILDE as u8),
         _ => Class::None,
     }
+}
+
+/// Whether a byte is a character that a literal may hold: Latin-1 without its control characters.
+pub const fn is_graphic(byte: u8) -> bool {
+    matches!(byte, 32..=126 | 160..=255)
+}
+
+/// Whether a byte stands for itself in a string.
+pub static IS_PLAIN: [bool; 256] = plain_bytes();
+
+const fn plain_bytes() -> [bool; 256] {
+    let mut plain = [false; 256];
+    let mut byte = 0;
+    while byte < plain.len() {
+        plain[byte] = is_graphic(byte as u8) && !matches!(byte as u8, b'"' | b'\\');
+        byte += 1;
+    }
+    plain
 }

@@ -65,35 +65,42 @@ pub struct Spelling {
 #[derive(Clone, Copy)]
 struct Keyword {
     spelling: Spelling,
-    kind: u32,
+    /// The index of another keyword of the same length and first letter.
+    next: u8,
 }
 
-const SLOTS_LOG: u32 = 7;
-const SLOTS: usize = 1 << SLOTS_LOG;
-/// Found by trial: it gives each keyword a slot of its own.
-const MULTIPLIER: u64 = 0x3bae_8d41_061e_c1bf;
+/// The length of the longest keyword.
+const LONGEST: usize = 11;
+/// Letters are numbered by their low five bits, which leave case aside.
+const LETTERS: usize = 32;
+/// Stands for the index of no keyword.
+const NONE: u8 = KEYWORDS.len() as u8;
 
-/// The keywords, each at its slot.
-static TABLE: [Keyword; SLOTS] = table();
-
-/// The slot of a word, by its first eight bytes, case aside.
-#[inline]
-const fn slot(first: u64) -> usize {
-    (block::small(first).wrapping_mul(MULTIPLIER) >> (u64::BITS - SLOTS_LOG)) as usize
+struct Index {
+    /// For a length and the number of a first letter, the index of a keyword.
+    first: [[u8; LETTERS]; LONGEST + 1],
+    keywords: [Keyword; KEYWORDS.len()],
 }
 
-const fn table() -> [Keyword; SLOTS] {
-    let none = Keyword { spelling: Spelling { first: 0, second: 0 }, kind: 0 };
-    let mut table = [none; SLOTS];
-    let mut index = 0;
-    while index < KEYWORDS.len() {
-        let spelling = spelling(KEYWORDS[index].as_bytes());
-        let slot = slot(spelling.first);
-        assert!(table[slot].kind == 0, "two keywords share a slot: choose another multiplier");
-        table[slot] = Keyword { spelling, kind: kind::FIRST_KEYWORD + index as u32 };
-        index += 1;
+static INDEX: Index = index();
+
+const fn index() -> Index {
+    let mut first = [[NONE; LETTERS]; LONGEST + 1];
+    let mut keywords = [Keyword { spelling: Spelling { first: 0, second: 0 }, next: NONE }; KEYWORDS.len()];
+    let mut place = 0;
+    while place < KEYWORDS.len() {
+        let word = KEYWORDS[place].as_bytes();
+        let letter = letter(word[0]);
+        keywords[place] = Keyword { spelling: spelling(word), next: first[word.len()][letter] };
+        first[word.len()][letter] = place as u8;
+        place += 1;
     }
-    table
+    Index { first, keywords }
+}
+
+#[inline]
+const fn letter(byte: u8) -> usize {
+    byte as usize % LETTERS
 }
 
 const fn spelling(word: &[u8]) -> Spelling {
@@ -106,14 +113,22 @@ const fn spelling(word: &[u8]) -> Spelling {
     Spelling { first: u64::from_le_bytes(blocks[0]), second: u64::from_le_bytes(blocks[1]) }
 }
 
-/// The kind of a word; none if it differs from a keyword only in the case of letters.
+/// The kind of a word of this length; none if it differs from a keyword only in the case of letters.
 #[inline]
-pub fn kind_of(word: Spelling) -> Option<u32> {
-    let keyword = &TABLE[slot(word.first)];
-    let differing = (word.first ^ keyword.spelling.first) | (word.second ^ keyword.spelling.second);
-    let only_in_case = block::small(differing) == block::small(0);
-    if only_in_case & (differing != 0) {
-        return None;
+pub fn kind_of(word: Spelling, length: usize) -> Option<u32> {
+    if length > LONGEST {
+        return Some(kind::IDENTIFIER);
     }
-    Some(if differing == 0 { keyword.kind } else { kind::IDENTIFIER })
+    let mut index = INDEX.first[length][letter(word.first as u8)];
+    while let Some(keyword) = INDEX.keywords.get(index as usize) {
+        let differing = (word.first ^ keyword.spelling.first) | (word.second ^ keyword.spelling.second);
+        if differing == 0 {
+            return Some(kind::FIRST_KEYWORD + u32::from(index));
+        }
+        if block::small(differing) == block::small(0) {
+            return None;
+        }
+        index = keyword.next;
+    }
+    Some(kind::IDENTIFIER)
 }

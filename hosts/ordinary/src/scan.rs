@@ -1,7 +1,7 @@
 //! From bytes to tokens.
 
 use crate::block;
-use crate::class::{Class, CLASSES};
+use crate::class::{is_graphic, Class, CLASSES, IS_PLAIN};
 use crate::keyword::{self, Spelling};
 use crate::kind;
 use crate::number;
@@ -28,7 +28,7 @@ pub fn scan(text: &[u8], tokens: &mut [u32]) -> Result<usize, Fault> {
         };
         let (kind, end) = match CLASSES[first as usize] {
             Class::Blank => {
-                at = skip_blanks(text, at + 1);
+                at = skip(text, at + 1, is_blank);
                 continue;
             }
             Class::Letter => word(text, at, first)?,
@@ -37,7 +37,7 @@ pub fn scan(text: &[u8], tokens: &mut [u32]) -> Result<usize, Fault> {
             Class::Pair(once, _) => (u32::from(once), at + 1),
             Class::Slash => match text.get(at + 1) {
                 Some(b'/') => {
-                    at = block::skip(text, at + 2, block::in_line);
+                    at = skip(text, at + 2, |byte| byte != 10 && byte != 13);
                     continue;
                 }
                 Some(b'*') => {
@@ -60,32 +60,16 @@ pub fn scan(text: &[u8], tokens: &mut [u32]) -> Result<usize, Fault> {
     }
 }
 
-/// The first place from `start` on without white space.
-#[inline]
-fn skip_blanks(text: &[u8], start: usize) -> usize {
-    if !text.get(start).map_or(false, is_blank) {
-        return start;
-    }
-    block::skip(text, start + 1, block::blanks)
-}
-
-fn is_blank(byte: &u8) -> bool {
-    CLASSES[*byte as usize] == Class::Blank
+fn is_blank(byte: u8) -> bool {
+    CLASSES[byte as usize] == Class::Blank
 }
 
 /// The place after the comment that starts here with `/*`.
 fn comment_end(text: &[u8], start: usize) -> Result<usize, Fault> {
-    let mut at = start + 3;
-    loop {
-        // A slash is rarer in a comment than a star.
-        at = block::find(text, at, b'/');
-        if at >= text.len() {
-            return Err(open_at_end(start));
-        }
-        if text[at - 1] == b'*' {
-            return Ok(at + 1);
-        }
-        at += 1;
+    let body = start + 2;
+    match text[body..].windows(2).position(|pair| pair == b"*/") {
+        Some(length) => Ok(body + length + 2),
+        None => Err(open_at_end(start)),
     }
 }
 
@@ -119,13 +103,13 @@ fn word(text: &[u8], start: usize, first: u8) -> Lexeme {
     if length < block::SIZE {
         return spelled(Spelling { first: block, second: block::head(second, length) }, start, end);
     }
-    Ok((kind::IDENTIFIER, block::skip(text, end, block::word_bytes)))
+    Ok((kind::IDENTIFIER, block::word_end(text, end)))
 }
 
 /// A word as it is spelled.
 #[inline]
 fn spelled(spelling: Spelling, start: usize, end: usize) -> Lexeme {
-    match keyword::kind_of(spelling) {
+    match keyword::kind_of(spelling, end - start) {
         Some(kind) => Ok((kind, end)),
         None => Err(Fault { number: number::KEYWORD_CASE, place: start }),
     }
@@ -133,9 +117,7 @@ fn spelled(spelling: Spelling, start: usize, end: usize) -> Lexeme {
 
 fn escaped_identifier(text: &[u8], start: usize) -> Lexeme {
     match text.get(start + 1) {
-        Some(byte) if byte.is_ascii_alphabetic() => {
-            Ok((kind::IDENTIFIER, block::skip(text, start + 2, block::word_bytes)))
-        }
+        Some(byte) if byte.is_ascii_alphabetic() => Ok((kind::IDENTIFIER, block::word_end(text, start + 2))),
         _ => Err(no_lexeme(start)),
     }
 }
@@ -198,7 +180,7 @@ fn quoted(text: &[u8], start: usize, open: usize) -> Lexeme {
     let mut characters = 0;
     loop {
         if is_string {
-            at = block::skip(text, at, |block| block::plain(block, quote));
+            at = skip(text, at, |byte| IS_PLAIN[byte as usize]);
         }
         let byte = match text.get(at) {
             None | Some(10 | 13) => return Err(open_at_end(start)),
@@ -232,7 +214,7 @@ struct Character {
 fn character(text: &[u8], at: usize, byte: u8, wide: bool) -> Result<Character, u32> {
     match byte {
         b'\\' => escape(text, at + 1, wide),
-        32..=126 | 160..=255 => Ok(Character { end: at + 1, zero: false }),
+        _ if is_graphic(byte) => Ok(Character { end: at + 1, zero: false }),
         _ => Err(number::BAD_LITERAL),
     }
 }
