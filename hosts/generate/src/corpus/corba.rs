@@ -20,6 +20,8 @@ const OPENING: &str = "/*
 
 module CosServices {
 
+    typedef string Istring;
+
 ";
 
 fn definition(random: &mut Random) -> String {

@@ -27,9 +27,9 @@ pub const SCANNER: &[u8] = include_bytes!("../../../samples/scanner.idl");
 const TRIALS: usize = 100;
 
 impl Corpus {
-    /// A text of at most this many bytes, and of not many fewer; `size` is 1024 or more.
-    pub fn text(&self, size: usize) -> Vec<u8> {
-        let mut random = Random::new(1);
+    /// A text of at most this many bytes, and of not many fewer; `size` is 1024 or more. Each seed gives another text.
+    pub fn text(&self, size: usize, seed: u64) -> Vec<u8> {
+        let mut random = Random::new(seed);
         let mut text = latin_1(self.opening);
         let mut trials = 0;
         while trials < TRIALS {
