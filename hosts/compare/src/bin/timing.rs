@@ -24,8 +24,8 @@ const DEPTH: u32 = 64;
 const LEAST_CLOCKED: Duration = Duration::from_micros(50);
 /// How long the two readers are timed on a part of a batch, and how often all batches are gone through: a machine's
 /// slow moment then meets a part of the rounds of each batch.
-const TIMED: Duration = Duration::from_millis(100);
-const PASSES: usize = 4;
+const TIMED: Duration = Duration::from_millis(25);
+const PASSES: usize = 16;
 
 /// A text, and its token records; none where its tokens have a fault.
 struct Text {
