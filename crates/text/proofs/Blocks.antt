@@ -3,7 +3,6 @@
 use mathlib.Core.Path.{_≡_, refl, ap, sym, _∙_}
 use mathlib.Core.Bool.{Bool, true, false, _&&_, cond}
 use mathlib.Core.List.{List, [], _∷_}
-use mathlib.Core.Logic.{_⊎_, inl, inr}
 use Prim.Native.Nat.{ℕ, zero, suc, _+_, _≤_, _<_, min}
 use native.Mathlib.Numerals.{add-one}
 use native.Mathlib.Omega.{arith}
@@ -43,7 +42,7 @@ module _ (class : ℕ → Bool) where
       ap (λ (b : Bool). b && inside) a ∙ ap (λ (b : Bool). leb k (run class bs) && b) i ∙ reaches bs k h
 
   -- a part of the run, and what is left of it
-  run-split : (bs : List ℕ) (m : ℕ) → m ≤ run class bs → run class bs ≡ m + run class (drop m bs)
+  pub run-split : (bs : List ℕ) (m : ℕ) → m ≤ run class bs → run class bs ≡ m + run class (drop m bs)
   unfolding run
   run-split bs zero h = omega arith
   run-split [] (suc m) h = absurd (omega arith)

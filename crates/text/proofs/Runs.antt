@@ -3,10 +3,10 @@
 use mathlib.Core.Path.{_≡_, refl, ap, _∙_}
 use mathlib.Core.Bool.{Bool, true, false, cond}
 use mathlib.Core.List.{List, [], _∷_}
-use Prim.Native.Nat.{ℕ, zero, suc, _+_, _≤_, _<_, min}
+use Prim.Native.Nat.{ℕ, zero, suc, _+_, _≤_, _<_}
 use native.Mathlib.Numerals.{add-one}
 use native.Mathlib.Omega.{arith}
-use lib.ListN.{length, getD, take, drop}
+use lib.ListN.{length, getD, drop}
 use lib.Seq.{drop-cons, drop-length}
 use Rattle.text.specs.Bytes.{at, run}
 
@@ -48,17 +48,6 @@ pub run-within : (class : ℕ → Bool) (bs : List ℕ) → run class bs ≤ len
 unfolding run
 run-within class [] = omega arith
 run-within class (b ∷ bs) = run-step (class b) (run-within class bs)
-
--- the run among the first bytes
-among-step : (more : Bool) (m r n : ℕ) → r ≡ min m n → cond more (suc r) 0 ≡ min (suc m) (cond more (suc n) 0)
-among-step true m r n e = omega arith
-among-step false m r n e = omega arith
-
-pub run-among : (class : ℕ → Bool) (m : ℕ) (bs : List ℕ) → run class (take m bs) ≡ min m (run class bs)
-unfolding run
-run-among class zero bs = omega arith
-run-among class (suc m) [] = omega arith
-run-among class (suc m) (b ∷ bs) = among-step (class b) m (run class (take m bs)) (run class bs) (run-among class m bs)
 
 -- the first n bytes are of the class
 pub record Passed (class : ℕ → Bool) (bs : List ℕ) (n : ℕ) : Type 0 where

@@ -235,11 +235,19 @@ const WINDOW: u8 = 32;
 
 const LINE_WINDOW: u8 = 48;
 
-// How many bytes of a word stand at the front.
+// How many bytes of a word stand at the front. Few words do not end in the first window.
 pub fn word_run(text: &[u8]) -> usize
     ensures { λ r. ⌜ r ≡ run wordly (now (text .entry)) ⌝ }
 {
-    run_by_windows(Class::Wordly, WINDOW, text)
+    let size = WINDOW as usize;
+    if text.len() < size {
+        return run_of(Class::Wordly, text);
+    }
+    let end = end_in_window(Class::Wordly, WINDOW, text);
+    if end < size {
+        return end;
+    }
+    size + run_by_windows(Class::Wordly, WINDOW, &text[size..])
 }
 
 // How many bytes stand at the front that a string may hold as they are.

@@ -7,7 +7,6 @@ ghost use Rattle.kinds.specs.Kinds.{same};
 ghost use Rattle.text.specs.Bytes.{at, letter};
 ghost use Rattle.text.specs.Words as text-words;
 ghost use Rattle.words.specs.Table.{table, place-of, four-at, likeness, spelling, First, near-to};
-use text::Class;
 use text::Lexeme;
 
 // The rows of the table below, numbered from 0.
@@ -298,5 +297,5 @@ pub fn escaped_word(bs: &[u8]) -> Lexeme
     requires { ⌜ 0 < length (now bs) ⌝ }
     ensures { λ r. ⌜ r ≡ text-words.escaped-word (now (bs .entry)) ⌝ }
 {
-    Lexeme::Token(1, text::run_of(Class::Wordly, &bs[1..]) + 1)
+    Lexeme::Token(1, text::word_run(&bs[1..]) + 1)
 }

@@ -2,7 +2,7 @@
 -- A block that the run fills moves it on; then what is left of the run is counted. Assumes nothing.
 use Prim.Native.Nat.{ℕ, _-_}
 use mathlib.Core.List.{List}
-use mathlib.Core.Path.{_≡_, ap, sym, _∙_}
+use mathlib.Core.Path.{ap, sym, _∙_}
 use native.Mathlib.Omega.{arith}
 use borrow.Author.Needs.{needs}
 use borrow.Author.Tests.{not-false, leb-true}
@@ -34,7 +34,9 @@ loop-again c =
     let args = turn .before .before .args in
     let class = member (args .class) in
     let n = turn .loop .n in
-    let fills = sym (ap (λ (l : List ℕ). leb block (run class l)) (rest (args .text .now) n)) ∙ sym (c .before .fills-block .ensures) ∙ not-false _ (c .if1 .left) in
+    let fills =
+    sym (ap (λ (l : List ℕ). leb block (run class l)) (rest (args .text .now) n)) ∙ sym (c .before .fills-block .ensures)
+    ∙ not-false _ (c .if1 .left) in
     passed-block class (args .text .now) (leb-true block (run class (drop n (args .text .now))) fills) (turn .loop .inv)
 
 returns : tie.Need-returns Inv-loop μ-loop

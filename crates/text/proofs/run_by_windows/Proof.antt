@@ -32,7 +32,8 @@ ends : (c : tie.After-end-in-window Inv-loop μ-loop) →
     c .end-in-window .result ≡ min (args .size) (run (member (args .class)) (drop (c .before .before .before .loop .n) (args .text .now)))
 ends c =
     let args = c .before .before .before .before .before .args in
-    c .end-in-window .ensures ∙ ap (λ (l : List ℕ). min (args .size) (run (member (args .class)) l)) (rest (args .text .now) (c .before .before .before .loop .n))
+    c .end-in-window .ensures
+    ∙ ap (λ (l : List ℕ). min (args .size) (run (member (args .class)) l)) (rest (args .text .now) (c .before .before .before .loop .n))
 
 add-result : tie.Need-add-result Inv-loop μ-loop
 add-result c =

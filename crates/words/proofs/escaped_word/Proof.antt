@@ -16,11 +16,11 @@ use Rattle.words.proofs.escaped_word.Statement.{statement}
 use Rattle.words.proofs.escaped_word.Tie as tie
 
 -- the run after the underscore
-counted : (c : tie.After-run-of) → c .run-of .result ≡ run wordly (drop 1 (c .before .before .before .args .bs .now))
-counted c = c .run-of .ensures ∙ ap (run wordly) (rest (c .before .before .before .args .bs .now) 1)
+counted : (c : tie.After-word-run) → c .word-run .result ≡ run wordly (drop 1 (c .before .before .before .args .bs .now))
+counted c = c .word-run .ensures ∙ ap (run wordly) (rest (c .before .before .before .args .bs .now) 1)
 
-add-t8 : tie.Need-add-t8
-add-t8 c =
+add-t7 : tie.Need-add-t7
+add-t7 c =
     let bs = c .before .before .before .args .bs .now in
     omega (arith, counted c, run-within wordly (drop 1 bs), length-drop 1 bs, c .before .before .before .good .0 .0)
 
@@ -31,4 +31,4 @@ returns c = ap (Token identifier) (ap (λ (n : ℕ). n + 1) (counted c) ∙ add-
 pub escaped-word-spec : {M : Type 1} → statement M
 escaped-word-spec =
     tie.close
-    (tie.spec (λ c. search needs) (λ c. search needs) (λ c. search needs) (λ c κs. search needs) add-t8 returns)
+    (tie.spec (λ c. search needs) (λ c. search needs) (λ c. search needs) (λ c κs. search needs) add-t7 returns)

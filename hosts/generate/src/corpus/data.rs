@@ -103,6 +103,6 @@ const REMARKS: [&str; 6] = [
     "------------------------------------------------------------------",
     "Written by the gateway alone; all others read it.",
     "Quality of service: reliable, keep last 1, transient local.",
-    "TODO: merge with the message of the second line.",
+    "To be merged with the message of the second line.",
     "Position and attitude as they were measured, not as they were planned.",
 ];
