@@ -1,12 +1,14 @@
 -- Letters in either case: in lower case they are 97 to 122, and their low five bits are the place in the alphabet, from 1 on.
 -- One test computed at every byte. Assumes nothing.
 use mathlib.Core.Path.{_≡_, ap, _∙_}
-use mathlib.Core.Bool.{Bool, true, not, _&&_, _||_}
+use mathlib.Core.Bool.{Bool, true, not, _&&_, _||_, false≢true}
+use mathlib.Core.List.{List, [], _∷_}
 use Prim.Native.Nat.{ℕ, _+_, _%_, _≤_, _<_}
 use native.Mathlib.Omega.{arith}
 use lib.Bits.{bitAnd, and-mask}
 use lib.Dec.{T, eqb, leb, eqb→eq, leb→le}
-use Rattle.text.specs.Bytes.{from, letter}
+use lib.ListN.{length}
+use Rattle.text.specs.Bytes.{at, from, letter}
 use Rattle.text.specs.Words.{lower}
 use Rattle.text.proofs.Ranges.{and-left, and-right, every, every-at, or-else}
 
@@ -40,3 +42,9 @@ letter-at {b} h e =
       a-to-z = from-holds 97 122 (lower b) (and-left (from 97 122 (lower b)) (eqb (b % 32 + 96) (lower b)) t);
       low-bits = ap (λ (n : ℕ). n + 96) (and-mask b 5) ∙ eqb→eq _ _ (and-right (from 97 122 (lower b)) (eqb (b % 32 + 96) (lower b)) t);
     }
+
+-- a text that starts with a letter has a byte
+pub letter-inside : (w : List ℕ) → letter (at w 0) ≡ true → 0 < length w
+unfolding letter
+letter-inside [] e = absurd (false≢true e)
+letter-inside (b ∷ w) e = omega arith

@@ -184,12 +184,12 @@ fn is_same(w: &[u8], v: &[u8]) -> bool
     are_four_same(w, v, last)
 }
 
-// Whether a word is spelled so, the case of letters aside.
+// Whether a word is spelled so, the case of letters aside. Its length and first letter are the spelling's already.
 fn is_same_but_case(w: &[u8], v: &[u8]) -> bool
-    requires { ⌜ length (now w) ≡ length (now v) ⌝ }
+    requires { ⌜ (near-to (now w) (now v) ≡ true) × (0 < length (now w)) ⌝ }
     ensures { λ r. ⌜ r ≡ text-words.same-but-case (now (w .entry)) (now (v .entry)) ⌝ }
 {
-    let mut i = 0;
+    let mut i = 1;
     while i < w.len() {
         if lower(w[i]) != lower(v[i]) {
             return false;
@@ -199,9 +199,9 @@ fn is_same_but_case(w: &[u8], v: &[u8]) -> bool
     true
 }
 
-// Compares a word with a spelling of its length.
+// Compares a word with a spelling that has its length and, case aside, its first letter.
 fn likeness_of(w: &[u8], v: &[u8]) -> Likeness
-    requires { ⌜ length (now w) ≡ length (now v) ⌝ }
+    requires { ⌜ (near-to (now w) (now v) ≡ true) × (0 < length (now w)) ⌝ }
     ensures { λ r. ⌜ r ≡ likeness (now (w .entry)) (now (v .entry)) ⌝ }
 {
     if is_same(w, v) {
@@ -258,7 +258,7 @@ fn kind_of(words: &[u8; 932], row: usize) -> u32
 // Compares a word with a keyword that has its length and, case aside, its first letter.
 fn likeness_to(words: &[u8; 932], row: usize, w: &[u8]) -> Likeness
     requires { ⌜ (now words ≡ table) × (row < 48) ⌝ }
-    requires { ⌜ near-to (now w) (spelling row) ≡ true ⌝ }
+    requires { ⌜ (near-to (now w) (spelling row) ≡ true) × (0 < length (now w)) ⌝ }
     ensures { λ r. ⌜ r ≡ likeness (now (w .entry)) (spelling row) ⌝ }
 {
     let all = &words[..];

@@ -5,6 +5,7 @@ use mathlib.Core.Bool.{false}
 use borrow.Author.Needs.{needs}
 use Rattle.kinds.specs.Kinds.{same}
 use Rattle.words.specs.Table.{likeness}
+use Rattle.words.proofs.Spellings.{near-length}
 use Rattle.words.proofs.likeness_of.Statement.{statement}
 use Rattle.words.proofs.likeness_of.Tie as tie
 
@@ -24,4 +25,5 @@ unfolding likeness
 returns-3 c = rw (not-same (c .before .before), sym (c .before .is-same-but-case .ensures) ∙ c .if2 .left)
 
 pub likeness-of-spec : {M : Type 1} → statement M
-likeness-of-spec = tie.close (tie.spec (λ c κs. search needs) returns (λ c κs. search needs) returns-2 returns-3)
+likeness-of-spec =
+    tie.close (tie.spec (λ c κs. near-length _ _ _ (c .before .before .pre .0)) returns (λ c κs. search needs) returns-2 returns-3)

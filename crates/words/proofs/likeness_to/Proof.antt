@@ -6,7 +6,7 @@ use native.Mathlib.Omega.{arith}
 use borrow.Author.Needs.{needs}
 use denote.Ref.{now}
 use lib.ListN.{length, take, drop}
-use Rattle.words.specs.Table.{spelling, likeness}
+use Rattle.words.specs.Table.{spelling, likeness, near-to}
 use Rattle.words.proofs.Spellings.{near-length}
 use Rattle.words.proofs.Rules.{bounds-at, spelling-at, table-length}
 use Rattle.words.proofs.likeness_to.Statement.{statement}
@@ -16,7 +16,7 @@ part-likeness-of-end : tie.Need-part-likeness-of-end
 part-likeness-of-end c =
     let l = ap length (c .before .before .pre .0 .0) ∙ table-length in
     let b = bounds-at (c .before .before .pre .0 .1) in
-    let n = near-length _ _ _ (c .before .before .pre .1) in
+    let n = near-length _ _ _ (c .before .before .pre .1 .0) in
     search needs
 
 -- the part that is lent
@@ -24,12 +24,14 @@ part : (c : tie.Start) →
     let start = c .args .row * 14 in
     take (start + length (now (c .args .w)) - start) (drop start (now (c .args .words))) ≡ spelling (c .args .row)
 part c =
-    let e = near-length _ _ _ (c .pre .1) in
+    let e = near-length _ _ _ (c .pre .1 .0) in
     let n : c .args .row * 14 + length (now (c .args .w)) - c .args .row * 14 ≡ length (spelling (c .args .row)) = omega arith in
     rw (c .pre .0 .0, n) (spelling-at (c .pre .0 .1))
 
 likeness-of-requires : tie.Need-likeness-of-requires
-likeness-of-requires c κs = near-length _ _ _ (c .before .before .before .pre .1) ∙ ap length (sym (part (c .before .before .before)))
+likeness-of-requires c κs =
+    let start = c .before .before .before in
+    (ap (near-to (now (start .args .w))) (part start) ∙ start .pre .1 .0, start .pre .1 .1)
 
 returns : tie.Need-returns
 returns c = c .likeness-of .ensures ∙ ap (likeness (now (c .before .before .before .before .args .w))) (part (c .before .before .before .before))

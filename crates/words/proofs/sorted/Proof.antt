@@ -4,6 +4,7 @@ use mathlib.Core.Path.{sym, _∙_}
 use Prim.Native.Nat.{_-_}
 use native.Mathlib.Omega.{arith}
 use borrow.Author.Needs.{needs}
+use Rattle.words.proofs.Letters.{letter-inside}
 use Rattle.words.proofs.Search.{Searched, searched-first, searched-next, sorted-same, sorted-but-case, sorted-none}
 use Rattle.words.proofs.sorted.Statement.{statement}
 use Rattle.words.proofs.sorted.Tie as tie
@@ -18,7 +19,9 @@ loop-holds : tie.Need-loop-holds Inv-loop μ-loop
 loop-holds c = searched-first _ (c .first-near .ensures)
 
 likeness-to-requires : tie.Need-likeness-to-requires Inv-loop μ-loop
-likeness-to-requires c κs = (search needs, c .before .loop .inv .there (c .loop-test .taken))
+likeness-to-requires c κs =
+    let start = c .before .before .before .before in
+    (search needs, (c .before .loop .inv .there (c .loop-test .taken), letter-inside (start .args .w .now) (start .pre .1)))
 
 returns : tie.Need-returns Inv-loop μ-loop
 returns c =
