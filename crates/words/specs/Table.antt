@@ -7,7 +7,7 @@ use Prim.Native.Char.{code}
 use Prim.Native.Nat.{ℕ, zero, suc, _+_, _-_, _≤_, _<_}
 use Prim.Native.String.{String}
 use lib.Dec.{eqb, ltb}
-use lib.ListN.{length, getD, take, drop, replicate}
+use lib.ListN.{length, getD, take, drop}
 use Rattle.kinds.specs.Kinds.{bytes, keywords, same}
 use Rattle.text.specs.Bytes.{at}
 use Rattle.text.specs.Words.{lower, same-but-case}
@@ -35,10 +35,15 @@ unfolding bytes
 count test [] = 0
 count test (v ∷ vs) = cond (test (bytes v)) (suc (count test vs)) (count test vs)
 
--- row i, of a spelling with others after it: the spelling filled with zeros to 12 bytes, its kind, and the next row near it
+-- what fills a row behind a spelling
+unfoldable pub filler : List ℕ
+unfolding bytes
+filler = bytes "-=-=-=-=-=-="
+
+-- row i, of a spelling with others after it: the spelling filled up to 12 bytes, its kind, and the next row near it
 unfoldable pub row : ℕ → List ℕ → List String → List ℕ
-unfolding near first-from
-row i w vs = w ++ replicate (12 - length w) 0 ++ (16 + i) ∷ first-from (suc i) (near-to w) vs ∷ []
+unfolding near first-from filler
+row i w vs = w ++ drop (length w) filler ++ (16 + i) ∷ first-from (suc i) (near-to w) vs ∷ []
 
 unfoldable pub rows : ℕ → List String → List ℕ
 unfolding row

@@ -33,58 +33,59 @@ const LONGEST: usize = 11;
 // How many lengths these are: the entries of a line of the index.
 const LENGTHS: usize = 10;
 
-// The keywords in byte order, a row each: the spelling in 12 bytes, the kind, and the next row with the same length and,
-// case aside, the same first letter. Then the index: for each letter, a line each, and each length from 2 to 11 the
+// The keywords in byte order, a row each: the spelling filled up to 12 bytes, the kind, and the next row with the same length
+// and, case aside, the same first letter. No two neighbours are alike in what fills a row: equal bytes would be stored apart,
+// and the table took half as long again to make. Then the index: for each letter, a line each, and each length from 2 to 11 the
 // first row that has them. \x30 is 48, which is no row.
 const WORDS: [u8; 932] = *b"\
-    FALSE\0\0\0\0\0\0\0\x10\x12\
-    Object\0\0\0\0\0\0\x11\x1c\
-    TRUE\0\0\0\0\0\0\0\0\x12\x30\
-    ValueBase\0\0\0\x13\x2c\
-    abstract\0\0\0\0\x14\x30\
-    any\0\0\0\0\0\0\0\0\0\x15\x30\
-    attribute\0\0\0\x16\x30\
-    boolean\0\0\0\0\0\x17\x30\
-    case\0\0\0\0\0\0\0\0\x18\x09\
-    char\0\0\0\0\0\0\0\0\x19\x30\
-    const\0\0\0\0\0\0\0\x1a\x30\
-    context\0\0\0\0\0\x1b\x30\
-    custom\0\0\0\0\0\0\x1c\x30\
-    default\0\0\0\0\0\x1d\x30\
-    double\0\0\0\0\0\0\x1e\x30\
-    enum\0\0\0\0\0\0\0\0\x1f\x30\
-    exception\0\0\0\x20\x30\
-    factory\0\0\0\0\0\x21\x30\
-    fixed\0\0\0\0\0\0\0\x22\x13\
-    float\0\0\0\0\0\0\0\x23\x30\
-    in\0\0\0\0\0\0\0\0\0\0\x24\x30\
-    inout\0\0\0\0\0\0\0\x25\x30\
-    interface\0\0\0\x26\x30\
-    local\0\0\0\0\0\0\0\x27\x30\
-    long\0\0\0\0\0\0\0\0\x28\x30\
-    module\0\0\0\0\0\0\x29\x30\
-    native\0\0\0\0\0\0\x2a\x30\
-    octet\0\0\0\0\0\0\0\x2b\x30\
-    oneway\0\0\0\0\0\0\x2c\x30\
-    out\0\0\0\0\0\0\0\0\0\x2d\x30\
-    private\0\0\0\0\0\x2e\x30\
-    public\0\0\0\0\0\0\x2f\x30\
-    raises\0\0\0\0\0\0\x30\x30\
-    readonly\0\0\0\0\x31\x30\
-    sequence\0\0\0\0\x32\x26\
-    short\0\0\0\0\0\0\0\x33\x30\
-    string\0\0\0\0\0\0\x34\x25\
-    struct\0\0\0\0\0\0\x35\x27\
-    supports\0\0\0\0\x36\x30\
-    switch\0\0\0\0\0\0\x37\x30\
-    truncatable\0\x38\x30\
-    typedef\0\0\0\0\0\x39\x30\
-    union\0\0\0\0\0\0\0\x3a\x30\
-    unsigned\0\0\0\0\x3b\x30\
-    valuetype\0\0\0\x3c\x30\
-    void\0\0\0\0\0\0\0\0\x3d\x30\
-    wchar\0\0\0\0\0\0\0\x3e\x30\
-    wstring\0\0\0\0\0\x3f\x30\
+    FALSE=-=-=-=\x10\x12\
+    Object-=-=-=\x11\x1c\
+    TRUE-=-=-=-=\x12\x30\
+    ValueBase=-=\x13\x2c\
+    abstract-=-=\x14\x30\
+    any=-=-=-=-=\x15\x30\
+    attribute=-=\x16\x30\
+    boolean=-=-=\x17\x30\
+    case-=-=-=-=\x18\x09\
+    char-=-=-=-=\x19\x30\
+    const=-=-=-=\x1a\x30\
+    context=-=-=\x1b\x30\
+    custom-=-=-=\x1c\x30\
+    default=-=-=\x1d\x30\
+    double-=-=-=\x1e\x30\
+    enum-=-=-=-=\x1f\x30\
+    exception=-=\x20\x30\
+    factory=-=-=\x21\x30\
+    fixed=-=-=-=\x22\x13\
+    float=-=-=-=\x23\x30\
+    in-=-=-=-=-=\x24\x30\
+    inout=-=-=-=\x25\x30\
+    interface=-=\x26\x30\
+    local=-=-=-=\x27\x30\
+    long-=-=-=-=\x28\x30\
+    module-=-=-=\x29\x30\
+    native-=-=-=\x2a\x30\
+    octet=-=-=-=\x2b\x30\
+    oneway-=-=-=\x2c\x30\
+    out=-=-=-=-=\x2d\x30\
+    private=-=-=\x2e\x30\
+    public-=-=-=\x2f\x30\
+    raises-=-=-=\x30\x30\
+    readonly-=-=\x31\x30\
+    sequence-=-=\x32\x26\
+    short=-=-=-=\x33\x30\
+    string-=-=-=\x34\x25\
+    struct-=-=-=\x35\x27\
+    supports-=-=\x36\x30\
+    switch-=-=-=\x37\x30\
+    truncatable=\x38\x30\
+    typedef=-=-=\x39\x30\
+    union=-=-=-=\x3a\x30\
+    unsigned-=-=\x3b\x30\
+    valuetype=-=\x3c\x30\
+    void-=-=-=-=\x3d\x30\
+    wchar=-=-=-=\x3e\x30\
+    wstring=-=-=\x3f\x30\
     \x30\x05\x30\x30\x30\x30\x04\x06\x30\x30\
     \x30\x30\x30\x30\x30\x07\x30\x30\x30\x30\
     \x30\x30\x08\x0a\x0c\x0b\x30\x30\x30\x30\

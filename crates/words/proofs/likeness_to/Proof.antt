@@ -1,6 +1,6 @@
 -- `words::likeness_to` meets its contract: the part of the table that is compared is the row's spelling.
 -- A word near the spelling has its length, and a row starts with its spelling. Assumes nothing.
-use mathlib.Core.Path.{_≡_, ap, sym, _∙_}
+use mathlib.Core.Path.{_≡_, ap, _∙_}
 use Prim.Native.Nat.{_+_, _-_, _*_}
 use native.Mathlib.Omega.{arith}
 use borrow.Author.Needs.{needs}
