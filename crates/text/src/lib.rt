@@ -176,7 +176,7 @@ fn fills_block(class: Class, text: &[u8]) -> bool
     all
 }
 
-// The same count by blocks.
+// How many bytes of the class stand in a row at the front, by blocks: where most runs are short and some are long.
 fn run_by_blocks(class: Class, text: &[u8]) -> usize
     ensures { λ r. ⌜ r ≡ run (member class) (now (text .entry)) ⌝ }
 {
@@ -197,8 +197,8 @@ fn lesser(a: u8, b: u8) -> u8
     if a < b { a } else { b }
 }
 
-// Where the run ends among so many first bytes; their number where it does not. Every byte is looked at, so that the
-// compiler takes them together: it is shorter and quicker than a branch for each.
+// Where the run ends among so many first bytes; their number where it does not. Every byte is looked at here, too: no branch
+// for each.
 fn end_in_window(class: Class, size: u8, text: &[u8]) -> usize
     requires { ⌜ size ≤ length (now text) ⌝ }
     ensures { λ r. ⌜ r ≡ min size (run (member class) (now (text .entry))) ⌝ }
@@ -214,7 +214,7 @@ fn end_in_window(class: Class, size: u8, text: &[u8]) -> usize
     end as usize
 }
 
-// The same count by windows of a size. The next window does not wait for the end in this one.
+// The same count by windows of a size: where the end may stand anywhere. The next window does not wait for the end in this one.
 fn run_by_windows(class: Class, size: u8, text: &[u8]) -> usize
     requires { ⌜ 0 < size ⌝ }
     ensures { λ r. ⌜ r ≡ run (member class) (now (text .entry)) ⌝ }

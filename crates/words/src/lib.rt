@@ -34,9 +34,9 @@ const LONGEST: usize = 11;
 const LENGTHS: usize = 10;
 
 // The keywords in byte order, a row each: the spelling filled up to 12 bytes, the kind, and the next row with the same length
-// and, case aside, the same first letter. No two neighbours are alike in what fills a row: equal bytes would be stored apart,
-// and the table took half as long again to make. Then the index: for each letter, a line each, and each length from 2 to 11 the
-// first row that has them. \x30 is 48, which is no row.
+// and, case aside, the same first letter. Then the index: for each letter, a line each, and each length from 2 to 11 the first
+// row that has them. \x30 is 48, which is no row. What fills a row has no two neighbours alike: the compiler stores equal bytes
+// by themselves, and the table, which is made at each call, took twice as long.
 const WORDS: [u8; 932] = *b"\
     FALSE=-=-=-=\x10\x12\
     Object-=-=-=\x11\x1c\
