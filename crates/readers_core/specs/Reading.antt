@@ -45,10 +45,10 @@ deep-rest = 2147483646
 
 -- a stop at token 0
 abbrev pub blamed : ℕ
-blamed = 9223372039002259455
+blamed = stop + (step - 1)
 
 abbrev pub too-deep : ℕ
-too-deep = 9223372039002259454
+too-deep = stop + deep-rest
 
 abbrev pub view : ℕ → Reading
 view s = record {

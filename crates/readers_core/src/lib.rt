@@ -25,9 +25,9 @@ const STEP: u64 = 2147483648;
 const DEEP: u64 = 2147483646;
 
 // A stop at token 0.
-const BLAMED: u64 = 9223372039002259455;
+const BLAMED: u64 = STOP + (STEP - 1);
 
-const TOO_DEEP: u64 = 9223372039002259454;
+const TOO_DEEP: u64 = STOP + DEEP;
 
 // The low half.
 fn low(s: Reading) -> u32
@@ -117,6 +117,7 @@ pub fn open(tokens: &[u32], s: Reading, mark: u32, depth: u32) -> Reading
         if 0 < depth {
             return s + 1;
         }
+        // The contract is about any number, also about one that no reader makes.
         if STOP <= s {
             return s;
         }
