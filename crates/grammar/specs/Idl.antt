@@ -1,4 +1,4 @@
--- Source document 000, rules 1 to 99, in its order and form. Repairs that paper 01 names are marked where they stand.
+-- Source document 000, rules 1 to 99, in its order and form. What paper 01 repairs and paper 02 amends is marked where it stands.
 -- Assumes nothing: this is the grammar that is believed, edition 1.
 use mathlib.Core.List.{List, [], _∷_}
 use Rattle.kinds.specs.Kinds.{kind-of}
@@ -123,10 +123,10 @@ published =
     ("primary_expr" ::= < "scoped_name" >
     ∣ < "literal" >
     ∣ ` "(" ▸ < "const_exp" > ▸ ` ")") ∷
-    -- (39) repaired: the stray page number
+    -- (39) repaired: the stray page number; amended by A1: neighbouring strings join
     ("literal" ::= < "integer_literal" >
-    ∣ < "string_literal" >
-    ∣ < "wide_string_literal" >
+    ∣ < "string_literal" > +
+    ∣ < "wide_string_literal" > +
     ∣ < "character_literal" >
     ∣ < "wide_character_literal" >
     ∣ < "fixed_pt_literal" >
@@ -278,8 +278,8 @@ published =
     ∣ ` "inout") ∷
     -- (93) repaired: the missing "zero or more"
     ("raises_expr" ::= ` "raises" ▸ ` "(" ▸ < "scoped_name" > ▸ (` "," ▸ < "scoped_name" >) * ▸ ` ")") ∷
-    -- (94) repaired: the missing "zero or more" and the link text
-    ("context_expr" ::= ` "context" ▸ ` "(" ▸ < "string_literal" > ▸ (` "," ▸ < "string_literal" >) * ▸ ` ")") ∷
+    -- (94) repaired: the missing "zero or more" and the link text; amended by A1: neighbouring strings join
+    ("context_expr" ::= ` "context" ▸ ` "(" ▸ < "string_literal" > + ▸ (` "," ▸ < "string_literal" > +) * ▸ ` ")") ∷
     -- (95)
     ("param_type_spec" ::= < "base_type_spec" >
     ∣ < "string_type" >

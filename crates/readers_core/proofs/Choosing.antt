@@ -1,6 +1,6 @@
 -- What a plan comes to where something is known of the next kind: one test for a choice, however many alternatives it has.
 -- By induction on the plan; that the last alternative needs no test is prediction's law. Assumes nothing.
-use Prim.Native.Nat.{ℕ, zero, suc, _+_, _≤_}
+use Prim.Native.Nat.{ℕ, zero, suc, _+_, _≤_, _<_}
 use native.Mathlib.Omega.{arith}
 use mathlib.Core.Path.{_≡_, sym, subst}
 use mathlib.Core.Logic.{_⊎_, inl, inr, ⊎-elim}
@@ -71,6 +71,14 @@ any-row a (suc n) x h l = go (decide (eqb x a)) (λ m. any-row (suc a) n x m (om
       where
         apart : x ≡ a → ⊥
         apart e = T-not (eqb x a) u (same x a e)
+
+pub none-row : (a n x : ℕ) → (x < a) ⊎ (a + n ≤ x) → AnyOf (row a n) x → ⊥
+unfolding row AnyOf
+none-row a zero x o h = h
+none-row a (suc zero) x o h = ⊎-elim (λ u. omega arith) (λ u. omega arith) o
+none-row a (suc (suc n)) x o (inl e) = ⊎-elim (λ u. omega arith) (λ u. omega arith) o
+none-row a (suc (suc n)) x o (inr h) =
+    none-row (suc a) (suc n) x (⊎-elim (λ u. inl (omega arith)) (λ u. inr (omega arith)) o) h
 
 pub elem-any : (ks : List ℕ) (x : ℕ) → T (elem x ks) → AnyOf ks x
 unfolding AnyOf elem

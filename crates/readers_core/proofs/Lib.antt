@@ -3,6 +3,7 @@ pub mod Storing
 pub mod Holding
 pub mod Shapes
 pub mod Sequence
+pub mod Lines
 pub mod Choosing
 pub mod Frames
 pub mod Groups

@@ -6,13 +6,13 @@ use mathlib.Core.Path.{_≡_, refl, sym, _∙_, subst}
 use mathlib.Core.Bool.{Bool, true, false, not, _&&_, cond}
 use mathlib.Core.List.{List, [], _∷_}
 use mathlib.Core.Logic.{_⊎_, inl, inr}
-use lib.Dec.{T, T-not, eqb, eqb→eq, ltb, ltb→lt, nltb→le}
+use lib.Dec.{T, T-not, not-T, eqb, eqb→eq, ltb, ltb→lt, nltb→le}
 use lib.ListN.{length, List·getD-eq-default}
 use Rattle.grammar.specs.Forest.{end}
 use Rattle.grammar.specs.Record.{shape}
 use Rattle.grammar.specs.Sets.{elem}
-use Rattle.prediction.specs.Sets.{and-left, and-right, decide}
-use Rattle.prediction.specs.Plan.{Plan, many, seq}
+use Rattle.prediction.specs.Sets.{and-both, and-left, and-right, decide, elem-eq, subset}
+use Rattle.prediction.specs.Plan.{Plan, token, many, seq}
 use Rattle.prediction.specs.Typing.{null}
 use Rattle.prediction.specs.Look.{Look, look-nothing, look-some, look}
 use Rattle.prediction.specs.Run.{Outcome, done, blame, deep, Runs, sound}
@@ -22,8 +22,8 @@ use Rattle.readers_core.specs.Reading.{kind-at, ahead, view, State, seen
 use Rattle.readers_core.specs.Reading.{ends-deep, From}
 use Rattle.readers_core.proofs.Shapes.{leaves}
 use Rattle.readers_core.proofs.Sequence.{_▸_, skipped}
-use Rattle.readers_core.proofs.Choosing.{Known, among, except, Knows, goes-on, is-over, any-elem, repeat-on}
-use Rattle.readers_core.proofs.Choosing.{repeat-over, repeat-once}
+use Rattle.readers_core.proofs.Choosing.{Known, among, except, AnyOf, Knows, goes-on, is-over, any-elem, elem-any}
+use Rattle.readers_core.proofs.Choosing.{repeat-on, repeat-over, repeat-once}
 use Rattle.readers_core.proofs.Frames.{ahead-kind, going}
 
 -- the repetition so far: whatever the rest of it does from here, the whole does from its start
@@ -223,3 +223,18 @@ pub begun-over : {ks : List ℕ} {d x start : ℕ} {a : Plan} {s s′ s″ : Sta
     Knows k x → T (is-over idl-table k a) → ((hs : List ℕ) → From ks d start hs a s′ s″) → Begun ks d start a s s′ →
     (hs : List ℕ) → From ks d start hs (seq a (many a)) s s″
 begun-over {a = a} {s″ = s″} k e h u y begun = begun .on s″ (λ hs. y hs ▸ far-over k e h u far-here (leaves a hs))
+
+-- tokens of one kind: one more of it goes on with them, and whatever else ends them
+in-itself : (k : ℕ) → T (subset (k ∷ []) (k ∷ []))
+unfolding subset
+in-itself k = and-both (elem k (k ∷ [])) true (elem-eq k k refl) tt
+
+pub kind-again : (k : ℕ) → 0 < k → T (repeats (among (k ∷ [])) (token k))
+unfolding repeats goes-on null AnyOf
+kind-again k h =
+    and-both (subset (k ∷ []) (k ∷ [])) (not (elem 0 (k ∷ []))) (in-itself k)
+    (not-T (elem 0 (k ∷ [])) (λ u. omega (arith, elem-any (k ∷ []) 0 u)))
+
+pub kind-over : (k : ℕ) → T (is-over idl-table (except ((k ∷ []) ∷ [])) (token k))
+unfolding is-over
+kind-over k = in-itself k

@@ -1,6 +1,7 @@
 -- The parts of plans that readers of names, literals and basic types follow: kinds and rules by number, as in paper 01 and 000.
 -- Assumes nothing: these are definitions.
-use Rattle.prediction.specs.Plan.{Plan, token, call, wrap, seq, alt}
+use Prim.Native.Nat.{ℕ}
+use Rattle.prediction.specs.Plan.{Plan, token, call, wrap, seq, alt, many}
 
 -- a name, which "::" may precede; and each further step behind it
 abbrev pub first-name : Plan
@@ -30,3 +31,7 @@ number-type =
     (alt (seq (token 35) (wrap 53))
     (alt (seq (token 30) (wrap 53))
     (alt short-number (seq (call 59) (wrap 54)))))
+
+-- a string literal of kind k, which is narrow or wide: one string or more, side by side
+abbrev pub string-literal : (k : ℕ) → Plan
+string-literal k = seq (token k) (many (token k))

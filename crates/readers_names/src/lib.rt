@@ -2,7 +2,7 @@
 ghost use Rattle.prediction.specs.Plan.{call, seq, many, token, wrap};
 ghost use Rattle.readers_core.specs.Reading.{Short, Takes, Flat, FlatFrom, FlatWithin, FlatFollows, nothing, several};
 ghost use Rattle.readers_names.specs.Plans.{first-name, further-name, behind-long, behind-unsigned, long-number};
-ghost use Rattle.readers_names.specs.Plans.{short-number, number-type};
+ghost use Rattle.readers_names.specs.Plans.{short-number, number-type, string-literal};
 ghost use Prim.Native.Nat.{_<_};
 use readers_core::Reading;
 use readers_core::kind;
@@ -222,18 +222,37 @@ fn boolean_literal(tokens: &[u32], tree: &mut [u32], s: Reading) -> Reading
     }
 }
 
-// (39) literal: kinds 2 to 8 are those other than boolean.
+// A string literal: one string of the kind, narrow or wide, or more side by side.
+pub fn string_literal(tokens: &[u32], s: Reading, kind: u32) -> Reading
+    requires { ⌜ Short (now tokens) × (0 < kind) ⌝ }
+    ensures { λ r. ⌜ Takes (now (tokens .entry)) (string-literal kind) s r ⌝ }
+{
+    let mut t = take(tokens, s, kind);
+    while next_kind(tokens, t) == kind {
+        t = take(tokens, t, kind);
+    }
+    t
+}
+
+// (39) literal
 pub fn literal(tokens: &[u32], tree: &mut [u32], s: Reading) -> Reading
     requires { ⌜ Short (now tokens) ⌝ }
     ensures { λ r. ⌜ Flat (now (tokens .entry)) (call 39) (s, now (tree .entry)) (r, now (tree .exit)) ⌝ }
 {
     let next = next_kind(tokens, s);
-    if next < kind::INTEGER {
-        return boolean_literal(&*tokens, tree, s);
+    match next {
+        kind::INTEGER
+        | kind::FLOATING
+        | kind::FIXED_LITERAL
+        | kind::CHARACTER
+        | kind::WIDE_CHARACTER => {
+            let t = take(tokens, s, next);
+            node(tree, s, t, 39)
+        }
+        kind::STRING_LITERAL | kind::WIDE_STRING_LITERAL => {
+            let t = string_literal(&*tokens, s, next);
+            node(tree, s, t, 39)
+        }
+        _ => boolean_literal(&*tokens, tree, s),
     }
-    if kind::WIDE_STRING_LITERAL < next {
-        return boolean_literal(&*tokens, tree, s);
-    }
-    let t = take(tokens, s, next);
-    node(tree, s, t, 39)
 }

@@ -13,6 +13,7 @@ use readers_core::node;
 use readers_core::open;
 use readers_core::take;
 use readers_names::scoped_name;
+use readers_names::string_literal;
 use readers_names::word;
 use readers_types::param_type_spec;
 
@@ -163,7 +164,7 @@ fn further_strings(tokens: &[u32], s: Reading) -> Reading
     let mut t = s;
     while next_kind(tokens, t) == kind::COMMA {
         let mark = take(tokens, t, kind::COMMA);
-        t = take(tokens, mark, kind::STRING_LITERAL);
+        t = string_literal(&*tokens, mark, kind::STRING_LITERAL);
     }
     t
 }
@@ -177,7 +178,7 @@ fn contexts(tokens: &[u32], tree: &mut [u32], s: Reading, depth: u32) -> Reading
     if has_stopped(t) {
         return t;
     }
-    let u = take(tokens, t, kind::STRING_LITERAL);
+    let u = string_literal(&*tokens, t, kind::STRING_LITERAL);
     let v = further_strings(&*tokens, u);
     take(tokens, v, kind::CLOSE_PARENTHESIS)
 }

@@ -5,7 +5,7 @@ use Rattle.prediction.specs.Columns.{plan-at, round}
 use Rattle.prediction.specs.IdlPlans.{idl-prediction}
 use Rattle.readers_core.proofs.Frames.{frame}
 use Rattle.readers_core.proofs.Sequence.{_▸_}
-use Rattle.readers_interfaces.proofs.Lines.{_▸▸_, append}
+use Rattle.readers_core.proofs.Lines.{_▸▸_, append}
 use Rattle.readers_interfaces.proofs.Names.{interface-names}
 use Rattle.readers_core.proofs.Shapes.{leaves}
 use Rattle.readers_core.specs.Reading.{all-recorded, none-recorded}

@@ -5,13 +5,14 @@ use Rattle.prediction.specs.Plan.{seq, token}
 use Rattle.readers_core.proofs.Choosing.{Knows, among, except, is-over}
 use Rattle.readers_core.proofs.Repetition.{Far, falls, far-here, far-more, far-over, remaining, repeats}
 use Rattle.readers_core.proofs.Sequence.{_▸_}
+use Rattle.readers_names.specs.Plans.{string-literal}
 use borrow.Author.Needs.{needs}
 use mathlib.Core.List.{List, [], _∷_}
 use Rattle.readers_operations.proofs.further_strings.Statement.{statement}
 use Rattle.readers_operations.proofs.further_strings.Tie as tie
 
 abbrev Inv-loop : tie.InvT-loop
-Inv-loop tokens s t₀ t = (d : ℕ) (w : List ℕ) (start : ℕ) → Far tokens d start (seq (token 68) (token 7)) (s, w)
+Inv-loop tokens s t₀ t = (d : ℕ) (w : List ℕ) (start : ℕ) → Far tokens d start (seq (token 68) (string-literal 7)) (s, w)
     (t, w)
 
 abbrev μ-loop : tie.MeasureT-loop
@@ -28,7 +29,7 @@ loop-less c =
     let if1 = c .before .before .if1 in
     let take = c .before .take in
     falls {start = (loop .t)} (among (68 ∷ [])) (next-kind .ensures) (if1 .taken) tt
-    (λ hs. ((take .ensures .reads) 0 [] .in-any _ _) ▸ ((c .take2 .ensures .reads) 0 [] .in-any _ _))
+    (λ hs. ((take .ensures .reads) 0 [] .in-any _ _) ▸ ((c .string-literal .ensures .reads) 0 [] .in-any _ _))
 
 loop-again : tie.Need-loop-again Inv-loop μ-loop
 unfolding Knows repeats is-over
@@ -38,7 +39,7 @@ loop-again c =
     let if1 = c .before .before .if1 in
     let take = c .before .take in
     λ d w start. far-more (among (68 ∷ [])) (next-kind .ensures) (if1 .taken) tt
-    (λ hs. (take .ensures .reads _ _ .in-any _ _) ▸ (c .take2 .ensures .reads _ _ .in-any _ _)) ((loop .inv) d w start)
+    (λ hs. (take .ensures .reads _ _ .in-any _ _) ▸ (c .string-literal .ensures .reads _ _ .in-any _ _)) ((loop .inv) d w start)
 
 returns : tie.Need-returns Inv-loop μ-loop
 unfolding Knows repeats is-over

@@ -4,7 +4,7 @@ use Rattle.prediction.specs.Check.{table}
 use Rattle.prediction.specs.Columns.{plan-at, round}
 use Rattle.prediction.specs.IdlPlans.{idl-prediction}
 use Rattle.readers_core.proofs.Frames.{frame}
-use Rattle.readers_interfaces.proofs.Lines.{_▸▸_, append}
+use Rattle.readers_core.proofs.Lines.{_▸▸_, append}
 use Rattle.readers_core.proofs.Shapes.{leaves}
 use Rattle.readers_core.specs.Reading.{all-recorded, none-recorded}
 use borrow.Author.Needs.{needs}

@@ -1,7 +1,7 @@
 -- `custom_value` reads by its plan: a value with a body.
 -- Its calls are put together as its plan is; rule 13 leaves no record. Assumes nothing.
 use Rattle.readers_core.proofs.Sequence.{_▸_, unrecorded}
-use Rattle.readers_interfaces.proofs.Lines.{_▸▸_, append}
+use Rattle.readers_core.proofs.Lines.{_▸▸_, append}
 use Rattle.readers_core.proofs.Shapes.{leaves}
 use Rattle.readers_core.specs.Reading.{all-recorded, none-recorded}
 use borrow.Author.Needs.{needs}

@@ -1,7 +1,7 @@
 -- `inherits` reads by its plan: values behind ":", and the interfaces that are supported besides.
 -- Its calls are put together as its plan is. Assumes nothing.
 use Rattle.readers_core.proofs.Sequence.{_▸_}
-use Rattle.readers_interfaces.proofs.Lines.{_▸▸_, append}
+use Rattle.readers_core.proofs.Lines.{_▸▸_, append}
 use Rattle.readers_interfaces.proofs.Names.{value-names}
 use borrow.Author.Needs.{needs}
 use Rattle.readers_values.proofs.inherits.Statement.{statement}
