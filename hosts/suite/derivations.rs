@@ -52,7 +52,6 @@ fn only_the_alternatives_of_the_rule() {
     assert_eq!(blamed("typedef struct A B;"), (7, 17));
     assert_eq!(blamed("custom valuetype V;"), (7, 18));
     assert_eq!(blamed("valuetype V { factory f() raises(A); };"), (7, 26));
-    assert_eq!(blamed("const string A = \"a\" \"b\";"), (7, 21));
     assert_eq!(blamed("interface I { void f() context(L\"a\"); };"), (7, 31));
     assert_eq!(blamed("abstract struct A;"), (7, 9));
 }

@@ -5,7 +5,7 @@ use Prim.Native.String.{String}
 use mathlib.Core.Path.{_≡_, refl}
 use mathlib.Core.Bool.{Bool, true, false, not, _&&_, _||_, cond}
 use mathlib.Core.List.{List, [], _∷_, _++_}
-use lib.Dec.{T, ltb}
+use lib.Dec.{T, eqb, ltb}
 use Rattle.kinds.specs.Kinds.{kind-of}
 use Rattle.grammar.specs.Sets.{elem}
 use Rattle.grammar.specs.Forest.{Forest, end, leaf, node}
@@ -30,14 +30,38 @@ spelled (⟦ a ⟧) = spelled a
 spelled (a *) = spelled a
 spelled (a +) = spelled a
 
-unfoldable pub all-spelled : List Rule → Bool
-unfolding spelled
-all-spelled [] = true
-all-spelled ((name ::= e) ∷ rs) = spelled e && all-spelled rs
+-- a test of the right side of each rule
+unfoldable pub each-side : (Written → Bool) → List Rule → Bool
+each-side f [] = true
+each-side f ((name ::= e) ∷ rs) = f e && each-side f rs
 
-pub spelled-right : T (all-spelled published)
-unfolding all-spelled published
+pub spelled-right : T (each-side spelled published)
+unfolding each-side spelled published
 spelled-right = tt
+
+-- request A1: a string stands nowhere but as one or more of its kind
+unfoldable pub is-name : Written → Bool
+is-name (` w) = false
+is-name (< w >) = true
+is-name (a ▸ b) = false
+is-name (a ∣ b) = false
+is-name (⟦ a ⟧) = false
+is-name (a *) = false
+is-name (a +) = false
+
+unfoldable pub joined : Written → Bool
+unfolding place is-name
+joined (` w) = true
+joined (< w >) = eqb 0 (place w ("string_literal" ∷ "wide_string_literal" ∷ []))
+joined (a ▸ b) = joined a && joined b
+joined (a ∣ b) = joined a && joined b
+joined (⟦ a ⟧) = joined a
+joined (a *) = joined a
+joined (a +) = is-name a || joined a
+
+pub strings-joined : T (each-side joined published)
+unfolding each-side joined published
+strings-joined = tt
 
 -- the kinds of the terminals of a right side, and the rules that it uses
 unfoldable pub kinds-in : RightSide → List ℕ

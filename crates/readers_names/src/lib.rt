@@ -222,7 +222,7 @@ fn boolean_literal(tokens: &[u32], tree: &mut [u32], s: Reading) -> Reading
     }
 }
 
-// A string literal: one string of the kind, narrow or wide, or more side by side.
+// A string literal of (39) or (94): one or more strings of the kind, narrow or wide, side by side.
 pub fn string_literal(tokens: &[u32], s: Reading, kind: u32) -> Reading
     requires { ⌜ Short (now tokens) × (0 < kind) ⌝ }
     ensures { λ r. ⌜ Takes (now (tokens .entry)) (string-literal kind) s r ⌝ }
@@ -250,8 +250,8 @@ pub fn literal(tokens: &[u32], tree: &mut [u32], s: Reading) -> Reading
             node(tree, s, t, 39)
         }
         kind::STRING_LITERAL | kind::WIDE_STRING_LITERAL => {
-            let t = string_literal(&*tokens, s, next);
-            node(tree, s, t, 39)
+            let u = string_literal(&*tokens, s, next);
+            node(tree, s, u, 39)
         }
         _ => boolean_literal(&*tokens, tree, s),
     }

@@ -1,6 +1,7 @@
 //! The comparison notices planted mistakes.
 
 use compare::{plain, spellings, token_part, tree_part, whole_reader, Numbers, Outcome};
+use generate::kind::STRINGS;
 use ordinary::{read, read_tokens, read_tree, spelling};
 
 const CASES: usize = 20_000;
@@ -84,6 +85,47 @@ fn kinds_compared_by_their_low_part() {
             plain(read_tree(&low, count, length, tree, depth))
         }));
     }
+}
+
+/// The token table with another kind for each string directly behind a string, from the kinds of both.
+fn second_strings(tokens: &[u32], kind: fn(u32, u32) -> u32) -> Vec<u32> {
+    let mut tokens = tokens.to_vec();
+    for at in (3..tokens.len()).step_by(3) {
+        if STRINGS.contains(&tokens[at - 3]) && STRINGS.contains(&tokens[at]) {
+            tokens[at] = kind(tokens[at - 3], tokens[at]);
+        }
+    }
+    tokens
+}
+
+const NO_KIND: u32 = 9;
+
+#[test]
+fn strings_not_joined() {
+    assert_noticed(tree_part(1, CASES, |tokens, count, length, tree, depth| {
+        let single = second_strings(tokens, |before, kind| if before == kind { NO_KIND } else { kind });
+        plain(read_tree(&single, count, length, tree, depth))
+    }));
+}
+
+#[test]
+fn strings_of_both_kinds_joined() {
+    assert_noticed(tree_part(1, CASES, |tokens, count, length, tree, depth| {
+        let mixed = second_strings(tokens, |before, _| before);
+        plain(read_tree(&mixed, count, length, tree, depth))
+    }));
+}
+
+#[test]
+fn a_literal_recorded_over_its_first_string() {
+    assert_noticed(tree_part(1, CASES, |tokens, count, length, tree, depth| {
+        let reply = plain(read_tree(tokens, count, length, tree, depth));
+        if reply[0] == 0 {
+            let literals = tree.chunks_exact_mut(4).take(reply[3] as usize).filter(|record| record[0] == 39);
+            literals.for_each(|record| record[2] = record[1] + 1);
+        }
+        reply
+    }));
 }
 
 #[test]

@@ -1,5 +1,6 @@
 //! Damage to texts and token lists.
 
+use crate::kind::STRINGS;
 use crate::random::Random;
 
 /// Lexemes and beginnings of lexemes that readers get wrong.
@@ -104,14 +105,22 @@ fn change_case(text: &mut [u8], place: usize) {
 pub fn damage_kinds(kinds: &mut Vec<u32>, random: &mut Random) {
     let place = random.below(kinds.len() + 1);
     let other = random.below(kinds.len() + 1);
-    match random.below(6) {
+    match random.below(7) {
         0 => kinds.truncate(place),
         1 => kinds.insert(place, any_kind(random)),
+        2 => change_width(&mut kinds[place..]),
         _ if place == kinds.len() || other == kinds.len() => kinds.push(any_kind(random)),
-        2 => kinds.swap(place, other),
-        3 => drop(kinds.remove(place)),
-        4 => kinds[place] = kinds[other],
+        3 => kinds.swap(place, other),
+        4 => drop(kinds.remove(place)),
+        5 => kinds[place] = kinds[other],
         _ => kinds[place] = any_kind(random),
+    }
+}
+
+/// Makes the first string of these a wide one, or a narrow one if it is wide.
+fn change_width(kinds: &mut [u32]) {
+    if let Some(string) = kinds.iter_mut().find(|kind| STRINGS.contains(kind)) {
+        *string = STRINGS[0] + STRINGS[1] - *string;
     }
 }
 

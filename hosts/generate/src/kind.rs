@@ -15,6 +15,9 @@ pub const CLASSES: [&str; 8] = [
 /// The marks in the order of their kinds, 64 to 87.
 pub const MARKS: &str = "; { } : , :: = ( ) < > [ ] | ^ & >> << + - * / % ~";
 
+/// The kinds of strings, narrow and wide.
+pub const STRINGS: [u32; 2] = [7, 8];
+
 pub const FIRST_KEYWORD: u32 = 16;
 pub const FIRST_MARK: u32 = 64;
 

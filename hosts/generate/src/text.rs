@@ -52,10 +52,12 @@ fn wild_gap(before: &[u8], token: &[u8], random: &mut Random) -> Vec<u8> {
     gap
 }
 
-/// Whether the two tokens stay two with nothing between them: one is a mark, and if both are they share no byte.
+/// Whether the two tokens stay two with nothing between them: the first is closed by a quote, or one is a mark, and if
+/// both are they share no byte.
 fn may_touch(before: &[u8], token: &[u8]) -> bool {
     let is_mark = |byte: &u8| byte.is_ascii_punctuation() && !b"_.'\"".contains(byte);
     match (before.last(), token.first()) {
+        (Some(b'\'' | b'"'), _) => true,
         (Some(last), Some(first)) if is_mark(last) && is_mark(first) => last != first && *last != b'/',
         (Some(last), Some(first)) => is_mark(last) || is_mark(first),
         _ => true,

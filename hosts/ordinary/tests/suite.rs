@@ -18,3 +18,5 @@ mod lexemes;
 mod lexicon;
 #[path = "../../suite/samples.rs"]
 mod samples;
+#[path = "../../suite/strings.rs"]
+mod strings;

@@ -26,3 +26,6 @@ mod lexicon;
 #[cfg(feature = "tree")]
 #[path = "../../suite/samples.rs"]
 mod samples;
+#[cfg(feature = "tree")]
+#[path = "../../suite/strings.rs"]
+mod strings;

@@ -22,22 +22,24 @@ loop-holds c = λ d w start. far-here
 loop-less : tie.Need-loop-less Inv-loop μ-loop
 unfolding Knows
 loop-less c =
-    let start = c .before .before .before .before .before .before in
+    let args = c .before .before .before .before .before .before .args in
+    let pre = c .before .before .before .before .before .before .pre in
     let loop = c .before .before .before .loop in
     let next-kind = c .before .before .next-kind in
     let if1 = c .before .if1 in
-    falls {start = (loop .t)} (among (_ ∷ [])) (next-kind .ensures) (if1 .taken) (kind-again (start .args .kind) (start .pre .1))
+    falls {start = (loop .t)} (among ((args .kind) ∷ [])) (next-kind .ensures) (if1 .taken) (kind-again (args .kind) (pre .1))
     (λ hs. (c .take2 .ensures .reads) 0 [] .in-any _ _)
 
 loop-again : tie.Need-loop-again Inv-loop μ-loop
 unfolding Knows
 loop-again c =
-    let start = c .before .before .before .before .before .before in
+    let args = c .before .before .before .before .before .before .args in
+    let pre = c .before .before .before .before .before .before .pre in
     let loop = c .before .before .before .loop in
     let next-kind = c .before .before .next-kind in
     let if1 = c .before .if1 in
-    λ d w start′. far-more (among (_ ∷ [])) (next-kind .ensures) (if1 .taken) (kind-again (start .args .kind) (start .pre .1))
-    (λ hs. c .take2 .ensures .reads _ _ .in-any _ _) ((loop .inv) d w start′)
+    λ d w start. far-more (among ((args .kind) ∷ [])) (next-kind .ensures) (if1 .taken) (kind-again (args .kind) (pre .1))
+    (λ hs. c .take2 .ensures .reads _ _ .in-any _ _) ((loop .inv) d w start)
 
 returns : tie.Need-returns Inv-loop μ-loop
 unfolding Knows
@@ -49,7 +51,7 @@ returns c =
     record {
       reads = λ d w. record {
         in-any = λ start hs. (take .ensures .reads _ _ .in-any _ _) ▸
-            far-over (except ((_ ∷ []) ∷ [])) (next-kind .ensures) (tt, (c .if1 .left)) (kind-over (args .kind))
+            far-over (except (((args .kind) ∷ []) ∷ [])) (next-kind .ensures) (tt, (c .if1 .left)) (kind-over (args .kind))
             ((loop .inv) d w start) _;
       };
     }

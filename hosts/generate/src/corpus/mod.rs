@@ -3,6 +3,7 @@
 
 mod corba;
 mod data;
+mod joined;
 mod names;
 mod space;
 mod strings;
@@ -18,7 +19,8 @@ pub struct Corpus {
     closing: &'static str,
 }
 
-pub const CORPORA: [Corpus; 5] = [corba::CORPUS, data::CORPUS, words::CORPUS, space::CORPUS, strings::CORPUS];
+pub const CORPORA: [Corpus; 6] =
+    [corba::CORPUS, data::CORPUS, words::CORPUS, space::CORPUS, strings::CORPUS, joined::CORPUS];
 
 /// A file as people ship them: the messages of a counter-top scanner.
 pub const SCANNER: &[u8] = include_bytes!("../../../samples/scanner.idl");

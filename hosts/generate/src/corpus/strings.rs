@@ -15,7 +15,7 @@ fn definition(random: &mut Random) -> String {
     format!("    const string {name}_{number} = \"{}\";\n", some(random, 1, 30, piece))
 }
 
-fn piece(random: &mut Random) -> String {
+pub fn piece(random: &mut Random) -> String {
     match random.below(16) {
         0 => random.pick(&ESCAPES).to_string(),
         1 => random.pick(&FOREIGN).to_string(),

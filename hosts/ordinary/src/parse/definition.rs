@@ -203,7 +203,7 @@ impl Parser<'_> {
         let node = self.begin();
         self.expect(CONTEXT)?;
         self.open(LEFT_PARENTHESIS)?;
-        self.list(|parser| parser.expect(STRING_LITERAL))?;
+        self.list(|parser| parser.string_literal(STRING_LITERAL))?;
         self.close(RIGHT_PARENTHESIS)?;
         self.record(94, node);
         Ok(())

@@ -63,8 +63,11 @@ impl Parser<'_> {
         let node = self.begin();
         match self.kind {
             IDENTIFIER | SCOPE => self.scoped_name(),
-            INTEGER | FLOATING | FIXED_POINT | CHARACTER | WIDE_CHARACTER | STRING_LITERAL | WIDE_STRING => {
-                self.leaf(39)
+            INTEGER | FLOATING | FIXED_POINT | CHARACTER | WIDE_CHARACTER => self.leaf(39),
+            STRING_LITERAL | WIDE_STRING => {
+                self.string_literal(self.kind)?;
+                self.record(39, node);
+                Ok(())
             }
             TRUE | FALSE => self.leaf(40),
             _ => {

@@ -122,6 +122,13 @@ impl<'a> Parser<'a> {
         Ok(())
     }
 
+    /// One or more strings of this kind, narrow or wide, side by side.
+    fn string_literal(&mut self, kind: u32) -> Parsed {
+        self.expect(kind)?;
+        while self.accept(kind) {}
+        Ok(())
+    }
+
     /// One or more items with commas between; says how many.
     fn list(&mut self, item: fn(&mut Self) -> Parsed) -> Result<usize, Stop> {
         item(self)?;
