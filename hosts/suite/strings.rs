@@ -1,9 +1,7 @@
 //! Neighbouring strings join: request A1.
 
 use super::common::outcome;
-use super::reader::read;
-use generate::kind::STRINGS;
-use generate::{Cases, Chart, Grammar, Meaning, Random};
+use super::reader::{read, read_tokens, read_tree};
 
 const LITERAL: u32 = 39;
 const CONTEXT: u32 = 94;
@@ -18,24 +16,34 @@ fn records(rule: u32, text: &str) -> Vec<[u32; 4]> {
 /// The text is blamed where `blamed` stands in it for the first time, or at its end.
 fn assert_blamed(text: &str, blamed: Option<&str>) {
     let place = blamed.map_or(text.len(), |token| text.find(token).expect("the token is there"));
-    let (number, found, _, records) = outcome(text.as_bytes(), 64).numbers();
-    assert_eq!((number, found, records), (7, place as u32, 0), "{text}");
+    let tokens = read_tokens(text.as_bytes(), &mut vec![0; 3 * text.len()]).tokens;
+    assert_eq!(outcome(text.as_bytes(), 64).numbers(), (7, place as u32, tokens, 0), "{text}");
+}
+
+/// So many strings of this spelling.
+fn row(string: &str, count: usize) -> String {
+    vec![string; count].join(" ")
 }
 
 /// A constant of so many strings.
 fn constant(count: usize) -> String {
-    format!("const string A = {};", "\"a\" ".repeat(count))
+    format!("const string A = {};", row("\"a\"", count))
 }
 
 #[test]
 fn one_record_over_a_row_of_any_length() {
     for count in [1, 2, 3, 1000, 100_000] {
-        let text = constant(count);
         let past = 4 + count as u32;
-        let tree = [[81, 1, 2, 1], [LITERAL, 4, past, 1], [27, 0, past, 3], [2, 0, past + 1, 4], [1, 0, past + 1, 5]];
-        let outcome = outcome(text.as_bytes(), 64);
-        assert_eq!(outcome.numbers(), (0, text.len() as u32, past + 1, 5));
-        assert_eq!(outcome.records(), tree);
+        let wide = format!("const wstring A = {};", row("L\"a\"", count));
+        for (text, rule) in [(constant(count), 81), (wide, 82)] {
+            let outcome = outcome(text.as_bytes(), 64);
+            assert_eq!(outcome.numbers(), (0, text.len() as u32, past + 1, 5));
+            let literal = [LITERAL, 4, past, 1];
+            assert_eq!(
+                outcome.records(),
+                [[rule, 1, 2, 1], literal, [27, 0, past, 3], [2, 0, past + 1, 4], [1, 0, past + 1, 5]]
+            );
+        }
     }
 }
 
@@ -73,8 +81,7 @@ fn a_mixture_is_blamed_at_the_other_kind() {
     assert_blamed(r#"const wstring A = L"a" "b";"#, Some(r#""b""#));
     assert_blamed(r#"const wstring A = L"a" L"b" "c" L"d";"#, Some(r#""c""#));
     assert_blamed(r#"const wstring A = (L"a" "b");"#, Some(r#""b""#));
-    let row = constant(1000).replace(';', "L\"b\";");
-    assert_blamed(&row, Some("L"));
+    assert_blamed(&constant(1000).replace(';', "L\"b\";"), Some("L"));
 }
 
 #[test]
@@ -106,8 +113,8 @@ fn joined_in_a_context() {
         assert_eq!(records(CONTEXT, &text), [[CONTEXT, 7, past, 1]], "{text}");
         assert_eq!(records(LITERAL, &text), [[0; 4]; 0], "{text}");
     }
-    let thousand = operation(&"\"a\" ".repeat(1000));
-    assert_eq!(records(CONTEXT, &thousand), [[CONTEXT, 7, 1010, 1]]);
+    let thousand = row("\"a\"", 1000);
+    assert_eq!(records(CONTEXT, &operation(&format!("{thousand}, {thousand}"))), [[CONTEXT, 7, 2011, 1]]);
 }
 
 #[test]
@@ -136,6 +143,7 @@ fn small_tables() {
     let call = |tokens: usize, records: usize| {
         let (mut tokens, mut tree) = (vec![7; 3 * tokens], vec![7; 4 * records]);
         let reply = read(text.as_bytes(), &mut tokens, &mut tree, 64);
+        assert_eq!(tokens.iter().chain(&tree).all(|&number| number == 0), reply.number != 0);
         (reply.number, reply.place as usize, reply.tokens, reply.records)
     };
     assert_eq!(call(1004, 5), (6, text.len(), 1005, 0));
@@ -143,34 +151,15 @@ fn small_tables() {
     assert_eq!(call(1005, 5), (0, text.len(), 1005, 5));
 }
 
-/// What random lists hold: literals and contexts with strings side by side, and mixtures that are blamed.
+/// The tree part reads a row as far as the count goes, though the table holds more of it.
 #[test]
-fn random_lists_reach_rows_and_mixtures() {
-    let grammar = Grammar::published();
-    let (chart, cases) = (Chart::new(&grammar), Cases::new(&grammar));
-    let mut random = Random::new(4);
-    let (mut literals, mut contexts, mut mixtures) = (0, 0, 0);
-    for _ in 0..20_000 {
-        let kinds = cases.any_kinds(&mut random);
-        if kinds.len() > 80 {
-            continue;
-        }
-        let joins = |pair: &[u32]| pair.iter().all(|kind| STRINGS.contains(kind));
-        match chart.meaning(&kinds) {
-            Meaning::Blame(token) => {
-                let blamed = kinds[..kinds.len().min(token + 1)].windows(2).nth_back(0);
-                mixtures += usize::from(token < kinds.len() && blamed.map_or(false, joins));
-            }
-            Meaning::Records(records) => {
-                let rows = |rule| {
-                    let of_rule = records.iter().filter(|record| record[0] == rule);
-                    let mut spans = of_rule.map(|record| &kinds[record[1] as usize..record[2] as usize]);
-                    usize::from(spans.any(|span| span.windows(2).any(joins)))
-                };
-                literals += rows(LITERAL);
-                contexts += rows(CONTEXT);
-            }
-        }
+fn a_row_cut_by_the_count() {
+    let text = constant(3).into_bytes();
+    let mut tokens = vec![0; 24];
+    assert_eq!(read_tokens(&text, &mut tokens).tokens, 8);
+    for count in 5..8 {
+        let reply = read_tree(&tokens, count, text.len(), &mut [], 64);
+        assert_eq!((reply.number, reply.place as usize, reply.tokens), (7, text.len(), count as u32));
     }
-    assert!(literals > 100 && contexts > 10 && mixtures > 10, "{literals} {contexts} {mixtures}");
+    assert_eq!(read_tree(&tokens, 8, text.len(), &mut [], 64).records, 5);
 }

@@ -1,4 +1,4 @@
--- Facts on the rules of edition 1: they are spelled right, each has its use, other readers' errors are not in them.
+-- Facts on the rules of edition 1: they are spelled right, each has its use, strings join, other readers' errors are not in them.
 -- Computed, each as one test over the table.
 use Prim.Native.Nat.{ℕ, zero, suc}
 use Prim.Native.String.{String}
@@ -39,7 +39,6 @@ pub spelled-right : T (each-side spelled published)
 unfolding each-side spelled published
 spelled-right = tt
 
--- request A1: a string stands nowhere but as one or more of its kind
 unfoldable pub is-name : Written → Bool
 is-name (` w) = false
 is-name (< w >) = true
@@ -49,6 +48,7 @@ is-name (⟦ a ⟧) = false
 is-name (a *) = false
 is-name (a +) = false
 
+-- request A1: a string stands nowhere but as one or more of its kind
 unfoldable pub joined : Written → Bool
 unfolding place is-name
 joined (` w) = true

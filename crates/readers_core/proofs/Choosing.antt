@@ -72,13 +72,12 @@ any-row a (suc n) x h l = go (decide (eqb x a)) (λ m. any-row (suc a) n x m (om
         apart : x ≡ a → ⊥
         apart e = T-not (eqb x a) u (same x a e)
 
-pub none-row : (a n x : ℕ) → (x < a) ⊎ (a + n ≤ x) → AnyOf (row a n) x → ⊥
+pub none-row : (a n x : ℕ) → (x < a) ⊎ (a + n < x) → AnyOf (row a (suc n)) x → ⊥
 unfolding row AnyOf
-none-row a zero x o h = h
-none-row a (suc zero) x o h = ⊎-elim (λ u. omega arith) (λ u. omega arith) o
-none-row a (suc (suc n)) x o (inl e) = ⊎-elim (λ u. omega arith) (λ u. omega arith) o
-none-row a (suc (suc n)) x o (inr h) =
-    none-row (suc a) (suc n) x (⊎-elim (λ u. inl (omega arith)) (λ u. inr (omega arith)) o) h
+none-row a zero x o h = ⊎-elim (λ u. omega arith) (λ u. omega arith) o
+none-row a (suc n) x o (inl e) = ⊎-elim (λ u. omega arith) (λ u. omega arith) o
+none-row a (suc n) x o (inr h) =
+    none-row (suc a) n x (⊎-elim (λ u. inl (omega arith)) (λ u. inr (omega arith)) o) h
 
 pub elem-any : (ks : List ℕ) (x : ℕ) → T (elem x ks) → AnyOf ks x
 unfolding AnyOf elem

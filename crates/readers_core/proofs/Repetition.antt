@@ -224,11 +224,11 @@ pub begun-over : {ks : List ℕ} {d x start : ℕ} {a : Plan} {s s′ s″ : Sta
     (hs : List ℕ) → From ks d start hs (seq a (many a)) s s″
 begun-over {a = a} {s″ = s″} k e h u y begun = begun .on s″ (λ hs. y hs ▸ far-over k e h u far-here (leaves a hs))
 
--- tokens of one kind: one more of it goes on with them, and whatever else ends them
 in-itself : (k : ℕ) → T (subset (k ∷ []) (k ∷ []))
 unfolding subset
 in-itself k = and-both (elem k (k ∷ [])) true (elem-eq k k refl) tt
 
+-- tokens of one kind: another of it goes on, anything else ends them
 pub kind-again : (k : ℕ) → 0 < k → T (repeats (among (k ∷ [])) (token k))
 unfolding repeats goes-on null AnyOf
 kind-again k h =

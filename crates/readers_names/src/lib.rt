@@ -222,16 +222,25 @@ fn boolean_literal(tokens: &[u32], tree: &mut [u32], s: Reading) -> Reading
     }
 }
 
-// A string literal of (39) or (94): one or more strings of the kind, narrow or wide, side by side.
-pub fn string_literal(tokens: &[u32], s: Reading, kind: u32) -> Reading
+// Strings of the kind, as many as stand ahead.
+fn neighbours(tokens: &[u32], s: Reading, kind: u32) -> Reading
     requires { ⌜ Short (now tokens) × (0 < kind) ⌝ }
-    ensures { λ r. ⌜ Takes (now (tokens .entry)) (string-literal kind) s r ⌝ }
+    ensures { λ r. ⌜ Takes (now (tokens .entry)) (many (token kind)) s r ⌝ }
 {
-    let mut t = take(tokens, s, kind);
+    let mut t = s;
     while next_kind(tokens, t) == kind {
         t = take(tokens, t, kind);
     }
     t
+}
+
+// A string literal: one or more strings of the kind, narrow or wide, side by side.
+pub fn string_literal(tokens: &[u32], s: Reading, kind: u32) -> Reading
+    requires { ⌜ Short (now tokens) × (0 < kind) ⌝ }
+    ensures { λ r. ⌜ Takes (now (tokens .entry)) (string-literal kind) s r ⌝ }
+{
+    let t = take(tokens, s, kind);
+    neighbours(&*tokens, t, kind)
 }
 
 // (39) literal

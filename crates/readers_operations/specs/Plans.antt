@@ -5,7 +5,6 @@ use mathlib.Core.Logic.{_⊎_}
 use mathlib.Core.Path.{_≡_}
 use mathlib.Core.List.{List, [], _∷_}
 use Rattle.prediction.specs.Plan.{Plan, token, call, seq, alt, many, group, skip}
-use Rattle.readers_core.proofs.Lines.{append}
 use Rattle.readers_names.specs.Plans.{string-literal}
 
 -- the words before a parameter
@@ -36,4 +35,4 @@ abbrev pub further-strings : Plan
 further-strings = many (seq (token 68) (string-literal 7))
 
 abbrev pub contexts : Plan
-contexts = group 71 (append (string-literal 7) further-strings) 72
+contexts = group 71 (seq (token 7) (seq (many (token 7)) further-strings)) 72

@@ -13,6 +13,9 @@ fn assert_noticed(outcome: Outcome) {
 #[test]
 fn nothing_planted() {
     assert!(token_part(1, CASES, |text, tokens| plain(read_tokens(text, tokens))).is_ok());
+    let alone =
+        |tokens: &[u32], count, length, tree: &mut [u32], depth| plain(read_tree(tokens, count, length, tree, depth));
+    assert!(tree_part(1, CASES, alone).is_ok());
     assert!(whole_reader(1, CASES, |text, tokens, tree, depth| plain(read(text, tokens, tree, depth))).is_ok());
     assert!(spellings(1, CASES, spelling).is_ok());
 }

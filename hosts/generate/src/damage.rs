@@ -108,7 +108,7 @@ pub fn damage_kinds(kinds: &mut Vec<u32>, random: &mut Random) {
     match random.below(7) {
         0 => kinds.truncate(place),
         1 => kinds.insert(place, any_kind(random)),
-        2 => change_width(&mut kinds[place..]),
+        2 if change_width(&mut kinds[place..]) => {}
         _ if place == kinds.len() || other == kinds.len() => kinds.push(any_kind(random)),
         3 => kinds.swap(place, other),
         4 => drop(kinds.remove(place)),
@@ -117,11 +117,10 @@ pub fn damage_kinds(kinds: &mut Vec<u32>, random: &mut Random) {
     }
 }
 
-/// Makes the first string of these a wide one, or a narrow one if it is wide.
-fn change_width(kinds: &mut [u32]) {
-    if let Some(string) = kinds.iter_mut().find(|kind| STRINGS.contains(kind)) {
-        *string = STRINGS[0] + STRINGS[1] - *string;
-    }
+/// Makes the first string of these a wide one, or a narrow one if it is wide; says whether there is one.
+fn change_width(kinds: &mut [u32]) -> bool {
+    let string = kinds.iter_mut().find(|kind| STRINGS.contains(kind));
+    string.map(|kind| *kind = STRINGS[0] + STRINGS[1] - *kind).is_some()
 }
 
 /// A kind that the token part gives.

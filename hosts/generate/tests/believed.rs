@@ -1,4 +1,4 @@
-//! The grammar that the proofs believe is the published one, rule by rule.
+//! The grammar that the proofs believe is the published one, repaired and amended, rule by rule.
 
 use generate::Grammar;
 

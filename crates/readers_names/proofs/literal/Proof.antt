@@ -64,12 +64,12 @@ returns-3 : tie.Need-returns-3
 unfolding table round plan-at idl-prediction choose Knows row leaves all-recorded none-recorded
 returns-3 c =
     let next-kind = c .before .before .before .before .before .next-kind in
-    let joined = c .before .before .before .before .if1 in
+    let outside = c .before .before .before .before .if1 in
     let boolean-literal = c .before .before .boolean-literal in
     record {
       at-any =
           λ d. passed-on 39 (except (row 2 7 ∷ [])) (next-kind .ensures)
-          (tt, none-row 2 7 (next-kind .result) (⊎-elim (λ w. inl (w .taken)) (λ w. inr (w .2 .left)) (joined .came)))
+          (tt, none-row 2 6 (next-kind .result) (⊎-elim (λ w. inl (w .taken)) (λ w. inr (w .2 .left)) (outside .came)))
           refl tt ((boolean-literal .ensures .at-any) d);
     }
 

@@ -1,62 +1,18 @@
--- `string_literal` reads one string of the kind, and more as long as the next token is one.
--- The part read so far as a continuation; what is left to read falls. Assumes nothing.
-use Prim.Native.Nat.{ℕ}
-use Rattle.prediction.specs.Plan.{token}
-use Rattle.readers_core.proofs.Choosing.{Knows, among, except}
-use Rattle.readers_core.proofs.Repetition.{Far, falls, far-here, far-more, far-over, kind-again, kind-over, remaining}
+-- `string_literal` reads one string of the kind, and those beside it.
+-- Its calls are put together as its plan is. Assumes nothing.
 use Rattle.readers_core.proofs.Sequence.{_▸_}
 use borrow.Author.Needs.{needs}
-use mathlib.Core.List.{List, [], _∷_}
 use Rattle.readers_names.proofs.string_literal.Statement.{statement}
 use Rattle.readers_names.proofs.string_literal.Tie as tie
 
-abbrev Inv-loop : tie.InvT-loop
-Inv-loop tokens s kind t₀ t = (d : ℕ) (w : List ℕ) (start : ℕ) → Far tokens d start (token kind) (t₀, w) (t, w)
-
-abbrev μ-loop : tie.MeasureT-loop
-μ-loop tokens s kind t₀ t = remaining tokens t
-
-loop-holds : tie.Need-loop-holds Inv-loop μ-loop
-loop-holds c = λ d w start. far-here
-
-loop-less : tie.Need-loop-less Inv-loop μ-loop
-unfolding Knows
-loop-less c =
-    let args = c .before .before .before .before .before .before .args in
-    let pre = c .before .before .before .before .before .before .pre in
-    let loop = c .before .before .before .loop in
-    let next-kind = c .before .before .next-kind in
-    let if1 = c .before .if1 in
-    falls {start = (loop .t)} (among ((args .kind) ∷ [])) (next-kind .ensures) (if1 .taken) (kind-again (args .kind) (pre .1))
-    (λ hs. (c .take2 .ensures .reads) 0 [] .in-any _ _)
-
-loop-again : tie.Need-loop-again Inv-loop μ-loop
-unfolding Knows
-loop-again c =
-    let args = c .before .before .before .before .before .before .args in
-    let pre = c .before .before .before .before .before .before .pre in
-    let loop = c .before .before .before .loop in
-    let next-kind = c .before .before .next-kind in
-    let if1 = c .before .if1 in
-    λ d w start. far-more (among ((args .kind) ∷ [])) (next-kind .ensures) (if1 .taken) (kind-again (args .kind) (pre .1))
-    (λ hs. c .take2 .ensures .reads _ _ .in-any _ _) ((loop .inv) d w start)
-
-returns : tie.Need-returns Inv-loop μ-loop
-unfolding Knows
+returns : tie.Need-returns
 returns c =
-    let args = c .before .before .before .before .before .args in
-    let take = c .before .before .before .take in
-    let loop = c .before .before .loop in
-    let next-kind = c .before .next-kind in
+    let take = c .before .take in
     record {
       reads = λ d w. record {
-        in-any = λ start hs. (take .ensures .reads _ _ .in-any _ _) ▸
-            far-over (except (((args .kind) ∷ []) ∷ [])) (next-kind .ensures) (tt, (c .if1 .left)) (kind-over (args .kind))
-            ((loop .inv) d w start) _;
+        in-any = λ start hs. (take .ensures .reads _ _ .in-any _ _) ▸ (c .neighbours .ensures .reads _ _ .in-any _ _);
       };
     }
 
 pub string-literal-spec : {M : Type 1} → statement M
-string-literal-spec =
-    tie.close (tie.spec Inv-loop μ-loop (λ c κs. search needs) loop-holds (λ c κs. search needs)
-    (λ c κs. search needs) loop-less loop-again returns)
+string-literal-spec = tie.close (tie.spec (λ c κs. search needs) (λ c κs. search needs) returns)

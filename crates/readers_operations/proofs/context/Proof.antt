@@ -5,7 +5,6 @@ use Rattle.prediction.specs.Columns.{plan-at, round}
 use Rattle.prediction.specs.IdlPlans.{idl-prediction}
 use Rattle.readers_core.proofs.Choosing.{Knows, among, choose, except}
 use Rattle.readers_core.proofs.Frames.{chosen, frame}
-use Rattle.readers_core.proofs.Lines.{append}
 use Rattle.readers_core.proofs.Sequence.{_▸_, skipped}
 use Rattle.readers_core.proofs.Shapes.{leaves}
 use Rattle.readers_core.specs.Reading.{all-recorded, none-recorded}
@@ -15,7 +14,7 @@ use Rattle.readers_operations.proofs.context.Statement.{statement}
 use Rattle.readers_operations.proofs.context.Tie as tie
 
 returns : tie.Need-returns
-unfolding table round plan-at idl-prediction choose Knows append leaves all-recorded none-recorded
+unfolding table round plan-at idl-prediction choose Knows leaves all-recorded none-recorded
 returns c =
     let next-kind = c .before .before .before .before .before .before .before .before .before .before .next-kind in
     let if1 = c .before .before .before .before .before .before .before .before .before .if1 in

@@ -11,7 +11,7 @@ mod words;
 
 use crate::random::Random;
 
-/// A kind of text: what stands at its start, some definition with its line end, and what stands at its end.
+/// A kind of text: what stands at its start, some definition, or a part of one, with its line end, and what stands at its end.
 pub struct Corpus {
     pub name: &'static str,
     opening: &'static str,
