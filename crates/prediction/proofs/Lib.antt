@@ -6,5 +6,6 @@ pub mod IdlChecked
 pub mod SamePlans
 pub mod Verdict
 pub mod Bound
+pub mod Neighbours
 pub mod Theorems
 pub mod Transport

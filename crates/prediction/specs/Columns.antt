@@ -79,7 +79,7 @@ pub cap-at : (ps : List Plan) (k n : ℕ) → caps ps (suc k) n ≡ weight (caps
 unfolding caps weight-in plan-at weight
 cap-at ps k n = by-number-at (weight (caps ps k)) ps n (seq skip (wrap n))
 
-imply : (a b : Bool) → T (implies a b) → T a → T b
+pub imply : (a b : Bool) → T (implies a b) → T a → T b
 unfolding implies
 imply true b u v = u
 imply false b u v = absurd v

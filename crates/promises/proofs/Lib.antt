@@ -1,3 +1,4 @@
+pub mod Mixtures
 pub mod Places
 pub mod Soundness
 pub mod Demand1

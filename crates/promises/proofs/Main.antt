@@ -1,11 +1,11 @@
 -- What is promised, on one page of theorems. `reader::read` is proved to answer as `Answered` says of edition 1, `tree::read_tree` as
 -- `TreeAnswered` says of it, and the exported entries call these. Whatever answers so meets the demands below.
-use Prim.Native.Nat.{ℕ, _≤_}
+use Prim.Native.Nat.{ℕ, suc, _≤_, _<_}
 use mathlib.Core.Path.{_≡_}
 use mathlib.Core.Bool.{true, false}
 use mathlib.Core.List.{List, map}
 use lib.ListN.{length}
-use Rattle.grammar.specs.Blame.{Blame}
+use Rattle.grammar.specs.Blame.{Begins, Blame}
 use Rattle.grammar.specs.Depth.{Within}
 use Rattle.grammar.specs.Derivation.{kind-at, Derivation}
 use Rattle.grammar.specs.Forest.{Forest, leaves}
@@ -25,14 +25,15 @@ use Rattle.prediction.proofs.Theorems as theorems
 use Rattle.verdicts.specs.Samples.{All, Holds, starred}
 use Rattle.verdicts.proofs.OneMeaning.{some-text-sense, one-text-sense}
 use Rattle.verdicts.proofs.Samples.{starred-hold}
-use Rattle.promises.specs.Demands.{TreeAccepted, Accepted, TreeBlamed, Blamed, Kept, Again, TreeKept}
+use Rattle.promises.specs.Demands.{Mixed, TreeAccepted, Accepted, TreeBlamed, Blamed, Kept, Again, TreeKept}
+use Rattle.promises.proofs.Mixtures as mixtures
 use Rattle.promises.proofs.Demand1 as demand-1
 use Rattle.promises.proofs.Demand2 as demand-2
 use Rattle.promises.proofs.Demand3 as demand-3
 use Rattle.promises.proofs.TreePart as tree-part
 
 -- The grammar alone. No list of tokens has two derivations; each has its derivation or its place of blame, which is one;
--- the leaves of a derivation are the tokens in order.
+-- the leaves of a derivation are the tokens in order. Strings of both kinds side by side are blamed at the second, unless a token before it is.
 
 pub one-derivation : (ks : List ℕ) (g g′ : Forest) → Derivation idl ks g → Derivation idl ks g′ → g′ ≡ g
 one-derivation = theorems.unique idl-checked
@@ -48,6 +49,10 @@ one-blame = theorems.blamed-once idl-checked
 
 pub leaves-are-tokens : (ks : List ℕ) (g : Forest) → Derivation idl ks g → leaves g ≡ ks
 leaves-are-tokens = theorems.leaves-in-order idl-checked
+
+pub mixture-blamed : (ks : List ℕ) (q : ℕ) → suc q < length ks → Mixed (kind-at ks q) (kind-at ks (suc q)) →
+    Begins idl ks (suc q) → Blame idl ks (suc q)
+mixture-blamed = mixtures.mixture-blamed
 
 -- Each text has a meaning, and one alone: so `Answered` says one reply, and each number of each table, for every call.
 

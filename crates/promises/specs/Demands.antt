@@ -10,6 +10,7 @@ use Rattle.grammar.specs.Depth.{Within}
 use Rattle.grammar.specs.Derivation.{kind-at, Derivation}
 use Rattle.grammar.specs.Forest.{Forest}
 use Rattle.grammar.specs.Rule.{Edition}
+use Rattle.kinds.specs.Kinds as kinds
 use Rattle.replies.specs.declared.Reply.{Reply}
 use Rattle.replies.specs.Replies as rows
 use Rattle.tables.specs.Tables.{capacity, front, token-width, node-width}
@@ -18,6 +19,11 @@ use Rattle.meaning.specs.Sense.{kind, tree-records}
 use Rattle.meaning.specs.Verdict as verdict
 use Rattle.meaning.specs.Verdict.{Verdict}
 use Rattle.meaning.specs.Answer.{place, tree-reply}
+
+-- Request A1, a mixture: the kinds of a narrow string and a wide one, in either order
+pub data Mixed (k l : ℕ) : Type 0 where
+  wide-behind-narrow : k ≡ kinds.string → l ≡ kinds.wide-string → Mixed k l
+  narrow-behind-wide : k ≡ kinds.wide-string → l ≡ kinds.string → Mixed k l
 
 -- Demand 2, an acceptance of a list of tokens: the grammar derives it, room and depth are enough; the reply has its place and both counts,
 -- and the tree table holds the tree
