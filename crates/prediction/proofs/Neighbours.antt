@@ -24,129 +24,130 @@ use Rattle.prediction.specs.RulesAsPlans.{as-plan}
 use Rattle.prediction.specs.Check.{rounds, Checked, table, plans-of, table-of, all-typed}
 use Rattle.prediction.proofs.SamePlans.{to-plans}
 
--- a plan may end with k, where the frames of `ends` may
-unfoldable pub may-end : Table → (k : ℕ) (ends : ℕ → Bool) → Plan → Bool
-unfolding null
-may-end t k ends (token x) = eqb x k
-may-end t k ends (group o b c) = eqb c k
-may-end t k ends (call n) = ends n
-may-end t k ends (wrap r) = false
-may-end t k ends (seq a b) = may-end t k ends b || (null t b && may-end t k ends a)
-may-end t k ends (alt a b) = may-end t k ends a || may-end t k ends b
-may-end t k ends skip = false
-may-end t k ends (many a) = may-end t k ends a
+is : (x y z : ℕ) → x ≡ y → x ≡ z → T (eqb y z)
+is x y z e e′ = subst (λ (w : ℕ). T (eqb y w)) (sym e ∙ e′) (eqb-refl y)
+
+-- where the frames of `ends` are those that may end with k
+module _ (t : Table) (k : ℕ) (ends : ℕ → Bool) where
+  -- a plan may end with k
+  unfoldable pub may-end : Plan → Bool
+  unfolding null
+  may-end (token x) = eqb x k
+  may-end (group o b c) = eqb c k
+  may-end (call n) = ends n
+  may-end (wrap r) = false
+  may-end (seq a b) = may-end b || (null t b && may-end a)
+  may-end (alt a b) = may-end a || may-end b
+  may-end skip = false
+  may-end (many a) = may-end a
+
+  module _ (l : ℕ) where
+    -- it has no l directly behind a k
+    unfoldable pub apart : Plan → Bool
+    unfolding may-end first elem
+    apart (token x) = true
+    apart (group o b c) = apart b && (not (eqb o k) && not (eqb c l))
+    apart (call n) = true
+    apart (wrap r) = true
+    apart (seq a b) = (apart a && apart b) && not (may-end a && elem l (first t b))
+    apart (alt a b) = apart a && apart b
+    apart skip = true
+    apart (many a) = apart a && not (may-end a && elem l (first t a))
+
+    module _ (s : ℕ → ℕ) (o : Typed t) (ends-hold : (n : ℕ) → T (may-end (t .plan n)) → T (ends n))
+        (all-apart : (n : ℕ) → T (apart (t .plan n))) where
+      -- what is read from place i to place j
+      record Span (p : Plan) (i j : ℕ) : Type 0 where
+        pub last : (q : ℕ) → i ≤ q → suc q ≡ j → s q ≡ k → T (may-end p)
+        pub never : (q : ℕ) → i ≤ q → suc q < j → s q ≡ k → s (suc q) ≡ l → ⊥
+
+      -- two parts meet at place m
+      meet : {a b : Plan} {i m j : ℕ} → T (not (may-end a && elem l (first t b))) → Span a i m → Look t s b m j →
+          Span b m j → (q : ℕ) → i ≤ q → suc q < j → s q ≡ k → s (suc q) ≡ l → ⊥
+      meet {a} {b} {i} {m} {j} u x v y q h h′ e e′ = go (decide (ltb (suc q) m)) (decide (ltb m (suc q)))
+        where
+          here : suc q ≡ m → Look t s b m j → ⊥
+          here z (look-nothing d w) = omega arith
+          here z (look-some d w) =
+              T-not (may-end a && elem l (first t b)) u
+              (and-both (may-end a) (elem l (first t b)) (x .last q h z e)
+              (subst (λ (n : ℕ). T (elem n (first t b))) (ap s (sym z) ∙ e′) w))
+
+          go : T (ltb (suc q) m) ⊎ T (not (ltb (suc q) m)) → T (ltb m (suc q)) ⊎ T (not (ltb m (suc q))) → ⊥
+          go (inl d) r = x .never q h (ltb→lt (suc q) m d) e e′
+          go (inr d) (inl r) = let z = ltb→lt m (suc q) r in y .never q (omega arith) h′ e e′
+          go (inr d) (inr r) =
+              let z = nltb→le (suc q) m d in let z′ = nltb→le m (suc q) r in here (omega arith) v
+
+      span : {p : Plan} {i j : ℕ} {f g : Forest} → T (apart p) → PlanDerives (t .plan) s p i j f g → Span p i j
+      unfolding apart may-end first
+      span u (plan-token {k = x} {i = i} e) = record {
+        last = λ q h z d. is (s i) x k e (ap s (omega arith) ∙ d);
+        never = λ q h z d d′. omega arith;
+      }
+      span u (plan-group {o = x} {c = y} {i = i} {m = m} {b = b} e d e′) =
+          let v = and-left (apart b) (not (eqb x k) && not (eqb y l)) u in
+          let w = and-right (apart b) (not (eqb x k) && not (eqb y l)) u in
+          let r = span v d in
+          let h = forward t s d in
+          record {
+            last = λ q h′ z d′. is (s m) y k e′ (ap s (omega arith) ∙ d′);
+            never = λ q h′ z d′ d″. inside w r h q h′ z d′ d″ (decide (ltb i q)) (decide (ltb (suc q) m));
+          }
+        where
+          inside : T (not (eqb x k) && not (eqb y l)) → Span b (suc i) m → suc i ≤ m → (q : ℕ) → i ≤ q → suc q < suc m → s q ≡ k →
+              s (suc q) ≡ l → T (ltb i q) ⊎ T (not (ltb i q)) → T (ltb (suc q) m) ⊎ T (not (ltb (suc q) m)) → ⊥
+          inside w r h q h′ z d′ d″ (inl a) (inl c) = let a′ = ltb→lt i q a in r .never q (omega arith) (ltb→lt (suc q) m c) d′ d″
+          inside w r h q h′ z d′ d″ (inr a) c =
+              let a′ = nltb→le i q a in
+              T-not (eqb x k) (and-left (not (eqb x k)) (not (eqb y l)) w) (is (s i) x k e (ap s (omega arith) ∙ d′))
+          inside w r h q h′ z d′ d″ (inl a) (inr c) =
+              let c′ = nltb→le (suc q) m c in
+              T-not (eqb y l) (and-right (not (eqb x k)) (not (eqb y l)) w) (is (s m) y l e′ (ap s (omega arith) ∙ d″))
+      span u (plan-call {n = n} d e) =
+          let r = span (all-apart n) d in
+          record { last = λ q h z d′. ends-hold n (r .last q h z d′); never = r .never }
+      span u plan-wrap = record { last = λ q h z d. omega arith; never = λ q h z d d′. omega arith }
+      span u (plan-seq {a = a} {b = b} {m = m} {j = j} x y) =
+          let v = and-left (apart a && apart b) (not (may-end a && elem l (first t b))) u in
+          let w = and-right (apart a && apart b) (not (may-end a && elem l (first t b))) u in
+          let r = span (and-left (apart a) (apart b) v) x in
+          let r′ = span (and-right (apart a) (apart b) v) y in
+          record { last = λ q h z d. ending r r′ q h z d (look t s o y); never = meet w r (look t s o y) r′ }
+        where
+          ending : {i : ℕ} → Span a i m → Span b m j → (q : ℕ) → i ≤ q → suc q ≡ j → s q ≡ k → Look t s b m j →
+              T (may-end b || (null t b && may-end a))
+          ending r r′ q h z d (look-nothing e n) =
+              or-right (may-end b) (null t b && may-end a)
+              (and-both (null t b) (may-end a) n (r .last q h (z ∙ e) d))
+          ending r r′ q h z d (look-some e n) =
+              or-left (may-end b) (null t b && may-end a) (r′ .last q (omega arith) z d)
+      span u (plan-left {a = a} {b = b} x) =
+          let r = span (and-left (apart a) (apart b) u) x in
+          record { last = λ q h z d. or-left (may-end a) (may-end b) (r .last q h z d); never = r .never }
+      span u (plan-right {a = a} {b = b} x) =
+          let r = span (and-right (apart a) (apart b) u) x in
+          record { last = λ q h z d. or-right (may-end a) (may-end b) (r .last q h z d); never = r .never }
+      span u plan-skip = record { last = λ q h z d. omega arith; never = λ q h z d d′. omega arith }
+      span u plan-none = record { last = λ q h z d. absurd (omega arith); never = λ q h z d d′. omega arith }
+      span u (plan-more {a = a} {m = m} {j = j} x y) =
+          let r = span (and-left (apart a) (not (may-end a && elem l (first t a))) u) x in
+          let r′ = span u y in
+          record {
+            last = λ q h z d. ending r r′ q h z d (look t s o y);
+            never = meet (and-right (apart a) (not (may-end a && elem l (first t a))) u) r (look t s o y) r′;
+          }
+        where
+          ending : {i : ℕ} → Span a i m → Span (many a) m j → (q : ℕ) → i ≤ q → suc q ≡ j → s q ≡ k → Look t s (many a) m j →
+              T (may-end a)
+          ending r r′ q h z d (look-nothing e n) = r .last q h (z ∙ e) d
+          ending r r′ q h z d (look-some e n) = r′ .last q (omega arith) z d
 
 -- the frames that may, by so many rounds
 unfoldable pub ends-by : Table → ℕ → ℕ → ℕ → Bool
 unfolding may-end
 ends-by t k zero n = false
 ends-by t k (suc m) n = may-end t k (ends-by t k m) (t .plan n)
-
--- no l directly behind a k
-unfoldable pub apart : Table → (k l : ℕ) (ends : ℕ → Bool) → Plan → Bool
-unfolding may-end first elem
-apart t k l ends (token x) = true
-apart t k l ends (group o b c) = apart t k l ends b && (not (eqb o k) && not (eqb c l))
-apart t k l ends (call n) = true
-apart t k l ends (wrap r) = true
-apart t k l ends (seq a b) =
-    (apart t k l ends a && apart t k l ends b) && not (may-end t k ends a && elem l (first t b))
-apart t k l ends (alt a b) = apart t k l ends a && apart t k l ends b
-apart t k l ends skip = true
-apart t k l ends (many a) = apart t k l ends a && not (may-end t k ends a && elem l (first t a))
-
-is : (x y z : ℕ) → x ≡ y → x ≡ z → T (eqb y z)
-is x y z e e′ = subst (λ (w : ℕ). T (eqb y w)) (sym e ∙ e′) (eqb-refl y)
-
-module _ (t : Table) (s : ℕ → ℕ) (o : Typed t) (k l : ℕ) (ends : ℕ → Bool)
-    (ends-hold : (n : ℕ) → T (may-end t k ends (t .plan n)) → T (ends n))
-    (all-apart : (n : ℕ) → T (apart t k l ends (t .plan n))) where
-  -- what is read from place i to place j
-  record Span (p : Plan) (i j : ℕ) : Type 0 where
-    pub last : (q : ℕ) → i ≤ q → suc q ≡ j → s q ≡ k → T (may-end t k ends p)
-    pub never : (q : ℕ) → i ≤ q → suc q < j → s q ≡ k → s (suc q) ≡ l → ⊥
-
-  -- two parts meet at place m
-  meet : {a b : Plan} {i m j : ℕ} → T (not (may-end t k ends a && elem l (first t b))) → Span a i m → Look t s b m j →
-      Span b m j → (q : ℕ) → i ≤ q → suc q < j → s q ≡ k → s (suc q) ≡ l → ⊥
-  meet {a} {b} {i} {m} {j} u x v y q h h′ e e′ = go (decide (ltb (suc q) m)) (decide (ltb m (suc q)))
-    where
-      here : suc q ≡ m → Look t s b m j → ⊥
-      here z (look-nothing d w) = omega arith
-      here z (look-some d w) =
-          T-not (may-end t k ends a && elem l (first t b)) u
-          (and-both (may-end t k ends a) (elem l (first t b)) (x .last q h z e)
-          (subst (λ (n : ℕ). T (elem n (first t b))) (ap s (sym z) ∙ e′) w))
-
-      go : T (ltb (suc q) m) ⊎ T (not (ltb (suc q) m)) → T (ltb m (suc q)) ⊎ T (not (ltb m (suc q))) → ⊥
-      go (inl d) r = x .never q h (ltb→lt (suc q) m d) e e′
-      go (inr d) (inl r) = let z = ltb→lt m (suc q) r in y .never q (omega arith) h′ e e′
-      go (inr d) (inr r) =
-          let z = nltb→le (suc q) m d in let z′ = nltb→le m (suc q) r in here (omega arith) v
-
-  span : {p : Plan} {i j : ℕ} {f g : Forest} → T (apart t k l ends p) → PlanDerives (t .plan) s p i j f g → Span p i j
-  unfolding apart may-end first
-  span u (plan-token {k = x} {i = i} e) = record {
-    last = λ q h z d. is (s i) x k e (ap s (omega arith) ∙ d);
-    never = λ q h z d d′. omega arith;
-  }
-  span u (plan-group {o = x} {c = y} {i = i} {m = m} {b = b} e d e′) =
-      let v = and-left (apart t k l ends b) (not (eqb x k) && not (eqb y l)) u in
-      let w = and-right (apart t k l ends b) (not (eqb x k) && not (eqb y l)) u in
-      let r = span v d in
-      let h = forward t s d in
-      record {
-        last = λ q h′ z d′. is (s m) y k e′ (ap s (omega arith) ∙ d′);
-        never = λ q h′ z d′ d″. inside w r h q h′ z d′ d″ (decide (ltb i q)) (decide (ltb (suc q) m));
-      }
-    where
-      inside : T (not (eqb x k) && not (eqb y l)) → Span b (suc i) m → suc i ≤ m → (q : ℕ) → i ≤ q → suc q < suc m → s q ≡ k →
-          s (suc q) ≡ l → T (ltb i q) ⊎ T (not (ltb i q)) → T (ltb (suc q) m) ⊎ T (not (ltb (suc q) m)) → ⊥
-      inside w r h q h′ z d′ d″ (inl a) (inl c) = let a′ = ltb→lt i q a in r .never q (omega arith) (ltb→lt (suc q) m c) d′ d″
-      inside w r h q h′ z d′ d″ (inr a) c =
-          let a′ = nltb→le i q a in
-          T-not (eqb x k) (and-left (not (eqb x k)) (not (eqb y l)) w) (is (s i) x k e (ap s (omega arith) ∙ d′))
-      inside w r h q h′ z d′ d″ (inl a) (inr c) =
-          let c′ = nltb→le (suc q) m c in
-          T-not (eqb y l) (and-right (not (eqb x k)) (not (eqb y l)) w) (is (s m) y l e′ (ap s (omega arith) ∙ d″))
-  span u (plan-call {n = n} d e) =
-      let r = span (all-apart n) d in
-      record { last = λ q h z d′. ends-hold n (r .last q h z d′); never = r .never }
-  span u plan-wrap = record { last = λ q h z d. omega arith; never = λ q h z d d′. omega arith }
-  span u (plan-seq {a = a} {b = b} {m = m} {j = j} x y) =
-      let v = and-left (apart t k l ends a && apart t k l ends b) (not (may-end t k ends a && elem l (first t b))) u in
-      let w = and-right (apart t k l ends a && apart t k l ends b) (not (may-end t k ends a && elem l (first t b))) u in
-      let r = span (and-left (apart t k l ends a) (apart t k l ends b) v) x in
-      let r′ = span (and-right (apart t k l ends a) (apart t k l ends b) v) y in
-      record { last = λ q h z d. ending r r′ q h z d (look t s o y); never = meet w r (look t s o y) r′ }
-    where
-      ending : {i : ℕ} → Span a i m → Span b m j → (q : ℕ) → i ≤ q → suc q ≡ j → s q ≡ k → Look t s b m j →
-          T (may-end t k ends b || (null t b && may-end t k ends a))
-      ending r r′ q h z d (look-nothing e n) =
-          or-right (may-end t k ends b) (null t b && may-end t k ends a)
-          (and-both (null t b) (may-end t k ends a) n (r .last q h (z ∙ e) d))
-      ending r r′ q h z d (look-some e n) =
-          or-left (may-end t k ends b) (null t b && may-end t k ends a) (r′ .last q (omega arith) z d)
-  span u (plan-left {a = a} {b = b} x) =
-      let r = span (and-left (apart t k l ends a) (apart t k l ends b) u) x in
-      record { last = λ q h z d. or-left (may-end t k ends a) (may-end t k ends b) (r .last q h z d); never = r .never }
-  span u (plan-right {a = a} {b = b} x) =
-      let r = span (and-right (apart t k l ends a) (apart t k l ends b) u) x in
-      record { last = λ q h z d. or-right (may-end t k ends a) (may-end t k ends b) (r .last q h z d); never = r .never }
-  span u plan-skip = record { last = λ q h z d. omega arith; never = λ q h z d d′. omega arith }
-  span u plan-none = record { last = λ q h z d. absurd (omega arith); never = λ q h z d d′. omega arith }
-  span u (plan-more {a = a} {m = m} {j = j} x y) =
-      let r = span (and-left (apart t k l ends a) (not (may-end t k ends a && elem l (first t a))) u) x in
-      let r′ = span u y in
-      record {
-        last = λ q h z d. ending r r′ q h z d (look t s o y);
-        never = meet (and-right (apart t k l ends a) (not (may-end t k ends a && elem l (first t a))) u) r (look t s o y) r′;
-      }
-    where
-      ending : {i : ℕ} → Span a i m → Span (many a) m j → (q : ℕ) → i ≤ q → suc q ≡ j → s q ≡ k → Look t s (many a) m j →
-          T (may-end t k ends a)
-      ending r r′ q h z d (look-nothing e n) = r .last q h (z ∙ e) d
-      ending r r′ q h z d (look-some e n) = r′ .last q (omega arith) z d
 
 module _ {E : Edition} (c : Checked E) (k l : ℕ) where
   abbrev ends-of : ℕ → Bool
@@ -159,7 +160,7 @@ module _ {E : Edition} (c : Checked E) (k l : ℕ) where
   -- and no plan has an l directly behind a k
   unfoldable pub keeps-apart : Plan → Bool
   unfolding implies may-end ends-by apart
-  keeps-apart p = settled p && apart (table-of c) k l ends-of p
+  keeps-apart p = settled p && apart (table-of c) k ends-of l p
 
   module _ (u : T (every keeps-apart (plans-of c))) where
     kept : (n : ℕ) → T (keeps-apart (table-of c .plan n))
@@ -170,18 +171,18 @@ module _ {E : Edition} (c : Checked E) (k l : ℕ) where
     unfolding keeps-apart ends-by
     ends-kept n =
         imply (may-end (table-of c) k ends-of (table-of c .plan n)) (ends-of n)
-        (and-left (settled (table-of c .plan n)) (apart (table-of c) k l ends-of (table-of c .plan n)) (kept n))
+        (and-left (settled (table-of c .plan n)) (apart (table-of c) k ends-of l (table-of c .plan n)) (kept n))
 
-    all-apart : (n : ℕ) → T (apart (table-of c) k l ends-of (table-of c .plan n))
+    all-apart : (n : ℕ) → T (apart (table-of c) k ends-of l (table-of c .plan n))
     unfolding keeps-apart
     all-apart n =
-        and-right (settled (table-of c .plan n)) (apart (table-of c) k l ends-of (table-of c .plan n)) (kept n)
+        and-right (settled (table-of c .plan n)) (apart (table-of c) k ends-of l (table-of c .plan n)) (kept n)
 
     never-beside : (ks : List ℕ) (g : Forest) → Derivation E ks g → (q : ℕ) → suc q < length ks → kind-at ks q ≡ k →
         kind-at ks (suc q) ≡ l → ⊥
     unfolding Derivation as-plan apart
     never-beside ks g d q h e e′ =
-        span (table-of c) (kind-at ks) (all-typed c) k l ends-of ends-kept all-apart {p = call (E .start)} tt
+        span (table-of c) k ends-of l (kind-at ks) (all-typed c) ends-kept all-apart {p = call (E .start)} tt
         (to-plans c (kind-at ks) d) .never q (omega arith) h e e′
 
     -- where l stands directly behind k, it is blamed, if no token before it is
