@@ -7,10 +7,10 @@ use mathlib.Core.Bool.{Bool, true, false, not, _&&_, _||_, cond}
 use mathlib.Core.List.{List, [], _∷_}
 use native.Mathlib.Nat.{add-zero, zero-add, add-suc, suc-add}
 use native.Mathlib.Omega.{arith}
-use lib.Dec.{T, eqb, ltb, ltb→lt, nltb→le, eqb→eq, eqb-refl}
+use lib.Dec.{T, eqb, ltb, ltb→lt, nltb→le, eqb→eq}
 use lib.ListN.{getD, length, List·getD-eq-default}
 use Rattle.grammar.specs.Sets.{elem}
-use Rattle.grammar.proofs.Sets.{and-left, and-right, or-cases}
+use Rattle.grammar.proofs.Sets.{and-left, and-right, or-cases, eq→eqb}
 use Rattle.grammar.specs.Forest.{Forest, end, leaf, node}
 use Rattle.grammar.specs.Rule.{RightSide, terminal, nonterminal, sequence, choice, nothing, repeat, Edition}
 use Rattle.grammar.specs.Rule.{right-side}
@@ -99,7 +99,7 @@ under-node r m (node f p c) h b x y = omega arith
 
 under-same : (r m : ℕ) (h : Forest) (b : ℕ) → m ≡ r → under m h ≤ b → under r (node end m h) ≤ b
 unfolding under
-under-same r m h b e x = go (eqb m r) (subst (λ (k : ℕ). T (eqb m k)) e (eqb-refl m))
+under-same r m h b e x = go (eqb m r) (eq→eqb m r e)
   where
     go : (z : Bool) → T z → cond z (under r h) (suc (under m h)) ≤ b
     go true u = let q = ap (λ (k : ℕ). under k h) e in omega arith

@@ -1,8 +1,10 @@
--- What a conjunction and a disjunction of tests tell of their parts.
--- By cases on the first test.
+-- What a conjunction and a disjunction of tests tell of their parts; that equal numbers pass the test of equality.
+-- By cases on the first test; each number passes with itself.
+use Prim.Native.Nat.{ℕ}
 use mathlib.Core.Logic.{_⊎_, inl, inr}
+use mathlib.Core.Path.{_≡_, subst}
 use mathlib.Core.Bool.{Bool, true, false, _&&_, _||_}
-use lib.Dec.{T}
+use lib.Dec.{T, eqb, eqb-refl}
 
 pub and-left : (a b : Bool) → T (a && b) → T a
 and-left true b t = tt
@@ -15,3 +17,6 @@ and-right false b t = absurd t
 pub or-cases : (a b : Bool) → T (a || b) → T a ⊎ T b
 or-cases true b t = inl tt
 or-cases false b t = inr t
+
+pub eq→eqb : (m n : ℕ) → m ≡ n → T (eqb m n)
+eq→eqb m n e = subst (λ (k : ℕ). T (eqb m k)) e (eqb-refl m)

@@ -6,14 +6,14 @@ use mathlib.Core.Path.{_≡_, sym, _∙_, ap, subst}
 use mathlib.Core.Bool.{Bool, true, false, not, _&&_, _||_}
 use mathlib.Core.List.{List}
 use mathlib.Core.Logic.{_⊎_, inl, inr}
-use lib.Dec.{T, T-not, eqb, eqb-refl, ltb, ltb→lt, nltb→le}
+use lib.Dec.{T, T-not, eqb, ltb, ltb→lt, nltb→le}
 use lib.ListN.{length}
 use Rattle.grammar.specs.Blame.{Begins, Blame}
 use Rattle.grammar.specs.Derivation.{kind-at, Derivation}
 use Rattle.grammar.specs.Forest.{Forest}
 use Rattle.grammar.specs.Rule.{Edition}
 use Rattle.grammar.specs.Sets.{elem}
-use Rattle.prediction.specs.Sets.{and-left, and-right, and-both, or-left, or-right, decide}
+use Rattle.prediction.specs.Sets.{and-left, and-right, and-both, or-left, or-right, decide, eq→eqb}
 use Rattle.prediction.specs.Plan.{Plan, token, group, call, wrap, seq, alt, skip, many, PlanDerives, plan-token}
 use Rattle.prediction.specs.Plan.{plan-group, plan-call, plan-wrap, plan-seq, plan-left, plan-right, plan-skip}
 use Rattle.prediction.specs.Plan.{plan-none, plan-more}
@@ -23,9 +23,6 @@ use Rattle.prediction.specs.Columns.{implies, imply, every, every-at, pl
 use Rattle.prediction.specs.RulesAsPlans.{as-plan}
 use Rattle.prediction.specs.Check.{rounds, Checked, table, plans-of, table-of, all-typed}
 use Rattle.prediction.proofs.SamePlans.{to-plans}
-
-is : (x y z : ℕ) → x ≡ y → x ≡ z → T (eqb y z)
-is x y z e e′ = subst (λ (w : ℕ). T (eqb y w)) (sym e ∙ e′) (eqb-refl y)
 
 -- where the frames of `ends` are those that may end with k
 module _ (t : Table) (k : ℕ) (ends : ℕ → Bool) where
@@ -82,7 +79,7 @@ module _ (t : Table) (k : ℕ) (ends : ℕ → Bool) where
       span : {p : Plan} {i j : ℕ} {f g : Forest} → T (apart p) → PlanDerives (t .plan) s p i j f g → Span p i j
       unfolding apart may-end first
       span u (plan-token {k = x} {i = i} e) = record {
-        last = λ q h z d. is (s i) x k e (ap s (omega arith) ∙ d);
+        last = λ q h z d. eq→eqb x k (sym e ∙ ap s (omega arith) ∙ d);
         never = λ q h z d d′. omega arith;
       }
       span u (plan-group {o = x} {c = y} {i = i} {m = m} {b = b} e d e′) =
@@ -91,7 +88,7 @@ module _ (t : Table) (k : ℕ) (ends : ℕ → Bool) where
           let r = span v d in
           let h = forward t s d in
           record {
-            last = λ q h′ z d′. is (s m) y k e′ (ap s (omega arith) ∙ d′);
+            last = λ q h′ z d′. eq→eqb y k (sym e′ ∙ ap s (omega arith) ∙ d′);
             never = λ q h′ z d′ d″. inside w r h q h′ z d′ d″ (decide (ltb i q)) (decide (ltb (suc q) m));
           }
         where
@@ -100,10 +97,10 @@ module _ (t : Table) (k : ℕ) (ends : ℕ → Bool) where
           inside w r h q h′ z d′ d″ (inl a) (inl c) = let a′ = ltb→lt i q a in r .never q (omega arith) (ltb→lt (suc q) m c) d′ d″
           inside w r h q h′ z d′ d″ (inr a) c =
               let a′ = nltb→le i q a in
-              T-not (eqb x k) (and-left (not (eqb x k)) (not (eqb y l)) w) (is (s i) x k e (ap s (omega arith) ∙ d′))
+              T-not (eqb x k) (and-left (not (eqb x k)) (not (eqb y l)) w) (eq→eqb x k (sym e ∙ ap s (omega arith) ∙ d′))
           inside w r h q h′ z d′ d″ (inl a) (inr c) =
               let c′ = nltb→le (suc q) m c in
-              T-not (eqb y l) (and-right (not (eqb x k)) (not (eqb y l)) w) (is (s m) y l e′ (ap s (omega arith) ∙ d″))
+              T-not (eqb y l) (and-right (not (eqb x k)) (not (eqb y l)) w) (eq→eqb y l (sym e′ ∙ ap s (omega arith) ∙ d″))
       span u (plan-call {n = n} d e) =
           let r = span (all-apart n) d in
           record { last = λ q h z d′. ends-hold n (r .last q h z d′); never = r .never }

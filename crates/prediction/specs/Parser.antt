@@ -1,14 +1,14 @@
 -- The reader always answers, and its answer computes.
 -- By induction on the tokens left, and below that on the calls to the next token.
 use Prim.Native.Nat.{ℕ, zero, suc, _+_, _≤_, _<_}
-use mathlib.Core.Path.{_≡_, refl, subst}
+use mathlib.Core.Path.{_≡_, refl}
 use mathlib.Core.Logic.{_⊎_, inl, inr}
 use mathlib.Core.Bool.{Bool, true, false, not, _&&_, _||_}
 use native.Mathlib.Omega.{arith}
-use lib.Dec.{T, eqb, ltb, T-not, ltb→lt, nltb→le, eqb→eq, eqb-refl}
+use lib.Dec.{T, eqb, ltb, T-not, ltb→lt, nltb→le, eqb→eq}
 use Rattle.grammar.specs.Forest.{Forest, end, leaf, node, join}
 use Rattle.grammar.specs.Sets.{elem}
-use Rattle.grammar.proofs.Sets.{and-left, and-right}
+use Rattle.grammar.proofs.Sets.{and-left, and-right, eq→eqb}
 use Rattle.prediction.specs.Sets.{or-right, decide, only, and-both}
 use Rattle.prediction.specs.Plan.{Plan, token, group, call, wrap, seq, alt, skip, many}
 use Rattle.prediction.specs.Typing.{Table, null, first, typed, Typed}
@@ -60,7 +60,7 @@ abbrev pub Result : Table → (ℕ → ℕ) → ℕ → Plan → ℕ → Forest 
 Result t s d p i f = (x : Outcome) × Runs t s d p i f x
 
 pub not-equal : (m n : ℕ) → T (not (eqb m n)) → m ≡ n → ⊥
-not-equal m n u e = T-not (eqb m n) u (subst (λ (z : ℕ). T (eqb m z)) e (eqb-refl m))
+not-equal m n u e = T-not (eqb m n) u (eq→eqb m n e)
 
 -- the answer of a compound from that of its part
 unfoldable pub after : {t : Table} {s : ℕ → ℕ} {d d′ i i′ : ℕ} {p q : Plan} {f f′ : Forest} → Result t s d p i f →

@@ -5,9 +5,9 @@ use mathlib.Core.Path.{_≡_, sym, subst}
 use mathlib.Core.Logic.{_⊎_, inl, inr}
 use mathlib.Core.Bool.{Bool, true, false, not, _&&_, _||_}
 use mathlib.Core.List.{List, [], _∷_, _++_}
-use lib.Dec.{T, eqb, eqb→eq, eqb-refl}
+use lib.Dec.{T, eqb, eqb→eq}
 use Rattle.grammar.specs.Sets.{elem}
-pub use Rattle.grammar.proofs.Sets.{and-left, and-right, or-cases}
+pub use Rattle.grammar.proofs.Sets.{and-left, and-right, or-cases, eq→eqb}
 
 pub or-left : (a b : Bool) → T a → T (a || b)
 or-left true b t = tt
@@ -57,7 +57,7 @@ elem-only k false xs u t = absurd u
 
 pub elem-eq : (k x : ℕ) → k ≡ x → T (elem k (x ∷ []))
 unfolding elem
-elem-eq k x e = or-left (eqb k x) false (subst (λ (y : ℕ). T (eqb k y)) e (eqb-refl k))
+elem-eq k x e = or-left (eqb k x) false (eq→eqb k x e)
 
 pub subset-in : (k : ℕ) (xs ys : List ℕ) → T (subset xs ys) → T (elem k xs) → T (elem k ys)
 unfolding subset elem

@@ -6,11 +6,11 @@ use mathlib.Core.Path.{_≡_, sym, subst}
 use mathlib.Core.Logic.{_⊎_, inl, inr, ⊎-elim}
 use mathlib.Core.Bool.{Bool, true, false, not, _&&_, _||_}
 use mathlib.Core.List.{List, [], _∷_, _++_}
-use lib.Dec.{T, T-not, not-T, eqb, eqb→eq, eqb-refl}
+use lib.Dec.{T, T-not, not-T, eqb, eqb→eq}
 use Rattle.grammar.specs.Forest.{Forest}
 use Rattle.grammar.specs.Sets.{elem}
 use Rattle.prediction.specs.Sets.{subset, disjoint, subset-in, disjoint-not, and-left, and-right, and-both, or-left}
-use Rattle.prediction.specs.Sets.{or-right, or-cases, decide, elem-left, elem-right, elem-eq}
+use Rattle.prediction.specs.Sets.{or-right, or-cases, decide, elem-left, elem-right, elem-eq, eq→eqb}
 use Rattle.prediction.specs.Plan.{Plan, token, group, call, wrap, seq, alt, skip, many}
 use Rattle.prediction.specs.Typing.{Table, first, null}
 use Rattle.prediction.specs.Run.{Outcome, goes, turns, Runs, run-left, run-right, run-neither, run-seq}
@@ -45,14 +45,11 @@ unfoldable pub flat : List (List ℕ) → List ℕ
 flat [] = []
 flat (ks ∷ arms) = ks ++ flat arms
 
-same : (x k : ℕ) → x ≡ k → T (eqb x k)
-same x k h = subst (λ (y : ℕ). T (eqb x y)) h (eqb-refl x)
-
 pub any-elem : (ks : List ℕ) (x : ℕ) → AnyOf ks x → T (elem x ks)
 unfolding AnyOf elem
 any-elem [] x h = h
-any-elem (k ∷ []) x h = or-left (eqb x k) false (same x k h)
-any-elem (k ∷ (l ∷ ls)) x (inl h) = or-left (eqb x k) (elem x (l ∷ ls)) (same x k h)
+any-elem (k ∷ []) x h = or-left (eqb x k) false (eq→eqb x k h)
+any-elem (k ∷ (l ∷ ls)) x (inl h) = or-left (eqb x k) (elem x (l ∷ ls)) (eq→eqb x k h)
 any-elem (k ∷ (l ∷ ls)) x (inr h) = or-right (eqb x k) (elem x (l ∷ ls)) (any-elem (l ∷ ls) x h)
 
 -- n kinds in a row, from a on
@@ -70,7 +67,7 @@ any-row a (suc n) x h l = go (decide (eqb x a)) (λ m. any-row (suc a) n x m (om
     go (inr u) f = inr (f (omega (arith, apart)))
       where
         apart : x ≡ a → ⊥
-        apart e = T-not (eqb x a) u (same x a e)
+        apart e = T-not (eqb x a) u (eq→eqb x a e)
 
 pub none-row : (a n x : ℕ) → (x < a) ⊎ (a + n < x) → AnyOf (row a (suc n)) x → ⊥
 unfolding row AnyOf

@@ -5,13 +5,14 @@ use mathlib.Core.Path.{_≡_, refl, ap, sym, _∙_, subst}
 use mathlib.Core.Bool.{Bool, true, false, not, _&&_, cond}
 use mathlib.Core.List.{List, [], _∷_, _++_}
 use mathlib.Core.Logic.{_⊎_, ⊎-elim}
-use lib.Dec.{T, eqb, eqb→eq, eqb-refl}
+use lib.Dec.{T, eqb, eqb→eq}
 use Rattle.grammar.specs.Forest.{Forest, end, leaf, node, join}
 use Rattle.grammar.proofs.Forest.{join-end}
 use Rattle.grammar.specs.Idl.{idl}
 use Rattle.grammar.specs.Record.{shape, recorded}
 use Rattle.grammar.specs.Sets.{elem}
 use Rattle.prediction.specs.Sets.{and-left, and-right, or-left, or-right, or-cases, subset, subset-in, elem-left, elem-right}
+use Rattle.prediction.specs.Sets.{eq→eqb}
 use Rattle.prediction.specs.Plan.{Plan, token, group, call, wrap, seq, alt, skip, many}
 use Rattle.prediction.specs.Run.{done, stopped, Runs, run-token, run-inside, run-group, run-call}
 use Rattle.prediction.specs.Run.{run-call-stop, run-wrap, run-seq, run-seq-stop, run-left, run-right}
@@ -111,12 +112,9 @@ leaves (alt a b) hs = leaves a hs ++ leaves b hs
 leaves skip hs = hs
 leaves (many a) hs = cond (subset (leaves a hs) hs) hs (0 ∷ 1 ∷ 2 ∷ [])
 
-same : (x k : ℕ) → x ≡ k → T (eqb x k)
-same x k e = subst (λ (z : ℕ). T (eqb x z)) e (eqb-refl x)
-
 is-one : (f : Forest) (h : ℕ) → shape f ≡ h → T (elem (shape f) (h ∷ []))
 unfolding elem
-is-one f h e = or-left (eqb (shape f) h) false (same (shape f) h e)
+is-one f h e = or-left (eqb (shape f) h) false (eq→eqb (shape f) h e)
 
 any-shape : (f : Forest) → T (elem (shape f) (0 ∷ 1 ∷ 2 ∷ []))
 unfolding shape elem
@@ -131,7 +129,7 @@ unfolding one-more elem
 more-in h [] u = absurd u
 more-in h (k ∷ hs) u =
     ⊎-elim (λ v. or-left (eqb (beside h 1) (beside k 1)) (elem (beside h 1) (one-more hs))
-    (same (beside h 1) (beside k 1) (ap (λ (z : ℕ). beside z 1) (eqb→eq h k v))))
+    (eq→eqb (beside h 1) (beside k 1) (ap (λ (z : ℕ). beside z 1) (eqb→eq h k v))))
     (λ v. or-right (eqb (beside h 1) (beside k 1)) (elem (beside h 1) (one-more hs)) (more-in h hs v))
     (or-cases (eqb h k) (elem h hs) u)
 

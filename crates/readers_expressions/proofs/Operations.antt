@@ -6,10 +6,10 @@ use mathlib.Core.Path.{_≡_, refl, sym, _∙_, subst}
 use mathlib.Core.Bool.{Bool, true, false, not, _&&_, cond}
 use mathlib.Core.List.{List, [], _∷_}
 use mathlib.Core.Logic.{_⊎_, inl, inr, ⊎-elim}
-use lib.Dec.{T, T-not, eqb, eqb→eq, eqb-refl, leb, leb→le}
+use lib.Dec.{T, T-not, eqb, eqb→eq, leb, leb→le}
 use Rattle.grammar.specs.Forest.{Forest}
 use Rattle.grammar.specs.Sets.{elem}
-use Rattle.prediction.specs.Sets.{decide, and-left, and-right, or-left, or-cases, only}
+use Rattle.prediction.specs.Sets.{decide, and-left, and-right, or-left, or-cases, only, eq→eqb}
 use Rattle.prediction.specs.Plan.{Plan, token, call, wrap, seq, alt, many}
 use Rattle.prediction.specs.Typing.{null, first}
 use Rattle.prediction.specs.Run.{Outcome, Runs}
@@ -51,7 +51,7 @@ pub record Level (n : ℕ) : Type 0 where
 
 pub apart : (m n : ℕ) → (m ≡ n) ⊎ (m ≡ n → ⊥)
 apart m n = ⊎-elim (λ u. inl (eqb→eq m n u))
-    (λ u. inr (λ e. T-not (eqb m n) u (subst (λ (y : ℕ). T (eqb m y)) e (eqb-refl m)))) (decide (eqb m n))
+    (λ u. inr (λ e. T-not (eqb m n) u (eq→eqb m n e))) (decide (eqb m n))
 
 each : (P : ℕ → Type 0) → P 30 → P 31 → P 32 → P 33 → P 34 → P 35 → (n : ℕ) → 30 ≤ n → n ≤ 35 → P n
 each P a b c d e f n h l =

@@ -4,14 +4,15 @@ use Prim.Native.Nat.{ℕ}
 use mathlib.Core.Path.{_≡_, refl, sym, _∙_, subst}
 use mathlib.Core.Bool.{Bool, true, false, _||_}
 use mathlib.Core.List.{List, [], _∷_}
-use lib.Dec.{T, eqb, eqb→eq, eqb-refl}
+use lib.Dec.{T, eqb, eqb→eq}
 use Rattle.grammar.specs.Sets.{elem}
+use Rattle.prediction.specs.Sets.{eq→eqb}
 use Rattle.readers_core.proofs.Choosing.{AnyOf, any-elem}
 
 -- it is the first kind of the set, and it is not
 pub found : (x k : ℕ) (ks : List ℕ) → x ≡ k → eqb x k ≡ elem x (k ∷ ks)
 unfolding elem
-found x k ks e = go (eqb x k) (subst (λ (y : ℕ). T (eqb x y)) e (eqb-refl x))
+found x k ks e = go (eqb x k) (eq→eqb x k e)
   where
     go : (b : Bool) → T b → b ≡ b || elem x ks
     go true u = refl

@@ -4,7 +4,7 @@ use super::names::{basic_type, constant_name, member_name, type_name};
 use super::{list, parts, some, Corpus};
 use crate::random::Random;
 
-pub const CORPUS: Corpus = Corpus { name: "corba", opening: OPENING, definition, closing: "};\n" };
+pub const CORPUS: Corpus = Corpus { name: "corba", opening: OPENING, part: definition, closing: "};\n" };
 
 const OPENING: &str = "/*
  * Object services: naming, events, trading and notification.

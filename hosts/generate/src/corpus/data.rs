@@ -4,7 +4,7 @@ use super::names::{basic_type, constant_name, member_name, short_name, type_name
 use super::{some, Corpus};
 use crate::random::Random;
 
-pub const CORPUS: Corpus = Corpus { name: "data", opening: OPENING, definition, closing: "};\n" };
+pub const CORPUS: Corpus = Corpus { name: "data", opening: OPENING, part: definition, closing: "};\n" };
 
 const OPENING: &str = "// Data model of the site, revision 12.
 // Times are microseconds since the start of 1970; angles are in degrees.

@@ -11,11 +11,11 @@ mod words;
 
 use crate::random::Random;
 
-/// A kind of text: what stands at its start, some definition, or a part of one, with its line end, and what stands at its end.
+/// A kind of text: what stands at its start, some part of it with its line end, and what stands at its end.
 pub struct Corpus {
     pub name: &'static str,
     opening: &'static str,
-    definition: fn(&mut Random) -> String,
+    part: fn(&mut Random) -> String,
     closing: &'static str,
 }
 
@@ -25,7 +25,7 @@ pub const CORPORA: [Corpus; 6] =
 /// A file as people ship them: the messages of a counter-top scanner.
 pub const SCANNER: &[u8] = include_bytes!("../../../samples/scanner.idl");
 
-/// After so many definitions that have no room, a text ends.
+/// After so many parts that have no room, a text ends.
 const TRIALS: usize = 100;
 
 impl Corpus {
@@ -35,9 +35,9 @@ impl Corpus {
         let mut text = latin_1(self.opening);
         let mut trials = 0;
         while trials < TRIALS {
-            let definition = latin_1(&(self.definition)(&mut random));
-            if text.len() + definition.len() + self.closing.len() <= size {
-                text.extend(definition);
+            let part = latin_1(&(self.part)(&mut random));
+            if text.len() + part.len() + self.closing.len() <= size {
+                text.extend(part);
             } else {
                 trials += 1;
             }

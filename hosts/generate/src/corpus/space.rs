@@ -4,7 +4,7 @@ use super::names::{basic_type, constant_name, short_name, type_name};
 use super::{some, Corpus};
 use crate::random::Random;
 
-pub const CORPUS: Corpus = Corpus { name: "space", opening: OPENING, definition, closing: CLOSING };
+pub const CORPUS: Corpus = Corpus { name: "space", opening: OPENING, part: definition, closing: CLOSING };
 
 const OPENING: &str =
     "module Outer\n{\n        module Middle\n        {\n                module Inner\n                {\n";

@@ -4,7 +4,7 @@ use super::names::constant_name;
 use super::{some, Corpus};
 use crate::random::Random;
 
-pub const CORPUS: Corpus = Corpus { name: "strings", opening: "module Texts {\n", definition, closing: "};\n" };
+pub const CORPUS: Corpus = Corpus { name: "strings", opening: "module Texts {\n", part: definition, closing: "};\n" };
 
 fn definition(random: &mut Random) -> String {
     let name = constant_name(random);

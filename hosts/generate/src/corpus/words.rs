@@ -4,7 +4,7 @@ use super::names::{basic_type, constant_name, member_name, short_name, type_name
 use super::{list, some, Corpus};
 use crate::random::Random;
 
-pub const CORPUS: Corpus = Corpus { name: "words", opening: "native handle;\n", definition, closing: "" };
+pub const CORPUS: Corpus = Corpus { name: "words", opening: "native handle;\n", part: definition, closing: "" };
 
 fn definition(random: &mut Random) -> String {
     match random.below(8) {
