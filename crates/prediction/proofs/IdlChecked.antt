@@ -3,8 +3,7 @@
 use lib.Dec.{T}
 use Rattle.grammar.proofs.Facts.{rules-nest}
 use Rattle.grammar.specs.Idl.{idl}
-use Rattle.prediction.specs.Typing.{Table}
-use Rattle.prediction.specs.Check.{passes, Checked, table-of}
+use Rattle.prediction.specs.Check.{passes, Checked}
 use Rattle.prediction.specs.IdlPlans.{idl-prediction}
 
 pub idl-passes : T (passes idl idl-prediction)
@@ -13,7 +12,3 @@ idl-passes = tt
 
 abbrev pub idl-checked : Checked idl
 idl-checked = record { prediction = idl-prediction; passed = idl-passes; nested = rules-nest }
-
--- the table of edition 1
-abbrev pub idl-table : Table
-idl-table = table-of idl-checked

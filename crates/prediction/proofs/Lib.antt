@@ -3,9 +3,10 @@ pub mod Maximal
 pub mod Viable
 pub mod Choice
 pub mod IdlChecked
+pub mod Editions
 pub mod SamePlans
 pub mod Verdict
 pub mod Bound
 pub mod Neighbours
 pub mod Theorems
-pub mod Transport
+pub mod Renaming

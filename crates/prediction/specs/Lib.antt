@@ -1,5 +1,6 @@
 pub mod Sets
 pub mod Plan
+pub mod Renaming
 pub mod Typing
 pub mod Look
 pub mod Compare

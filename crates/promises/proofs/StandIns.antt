@@ -10,6 +10,7 @@ use lib.Dec.{ltb}
 use lib.ListN.{length, getD}
 use Rattle.kinds.specs.Kinds.{bytes}
 use Rattle.grammar.specs.Derivation.{kind-at}
+use Rattle.grammar.specs.Editions.{edition-1}
 use Rattle.grammar.specs.Idl.{idl}
 use Rattle.replies.specs.declared.Reply.{Reply}
 use Rattle.tables.specs.Tables.{capacity, row, front, token-width, node-width}
@@ -90,7 +91,7 @@ pub refuses-everything : {table tree : List ℕ} {r : Reply} {table′ tree′ :
     r .number ≡ 0
 unfolding starred Holds bytes
 refuses-everything {table} {tree} a c k =
-    let s = some-meaning (bytes "native A;") in
+    let s = some-meaning edition-1 (bytes "native A;") in
     let x = rw (c, k) at (a .inside refl (s .0) (s .1) .0) in
     ap (λ (y : Reply). y .number) (x ∙ second starred-hold (s .0) (s .1) .0)
 

@@ -8,7 +8,7 @@ use native.Mathlib.Omega.{arith}
 use borrow.Author.Tests.{le-leb, lt-ltb, le-ltb, leb-true, leb-false}
 use lib.ListN.{length, drop}
 use lib.Seq.{take-at, drop-at}
-use Rattle.grammar.specs.Idl.{idl}
+use Rattle.grammar.specs.Rule.{Edition}
 use Rattle.limits.specs.declared.Limits.{Limits}
 use Rattle.limits.specs.declared.Bounded.{Bounded}
 use Rattle.limits.specs.declared.Bounded.the-variants.{Good, Beyond}
@@ -70,7 +70,7 @@ module _ (setting : ℕ) (text table tree : List ℕ) {r : Bounded} {l : Limits}
       (reply ≡ text-reply (length text) v) × ((tokens′ ≡ text-tokens-after v table) × (tree′ ≡ text-tree-after v tree))
 
   -- a refusal of the token part
-  refused-right : (sense : TextSense) → TextMeans idl text sense → (answer (length text) table (tokens-of text) .number ≡ 0 → ⊥) →
+  refused-right : {E : Edition} (sense : TextSense) → TextMeans E text sense → (answer (length text) table (tokens-of text) .number ≡ 0 → ⊥) →
       Right (answer (length text) table (tokens-of text)) (filled table (tokens-of text)) (zeroed tree) sense
   unfolding Right text-verdict text-reply text-tokens-after text-tree-after
   refused-right sense (means-fault e) n = rw e (refl, (refl, refl))
@@ -87,8 +87,8 @@ module _ (setting : ℕ) (text table tree : List ℕ) {r : Bounded} {l : Limits}
       go false u n = rw (lt-ltb cap (length ts) (leb-false (length ts) cap u)) (refl, (refl, refl))
 
   -- an acceptance of the token part, judged by the tree part on the table read back
-  module _ {ts : List (List ℕ)} (e : tokens-of text ≡ tokens ts) (fits : room table ts ≡ true) {reply : Reply} {tree′ : List ℕ}
-      (judged : TreeAnswered idl (front token-width ts table) (length ts) (length text) tree setting reply tree′) where
+  module _ {E : Edition} {ts : List (List ℕ)} (e : tokens-of text ≡ tokens ts) (fits : room table ts ≡ true) {reply : Reply} {tree′ : List ℕ}
+      (judged : TreeAnswered E (front token-width ts table) (length ts) (length text) tree setting reply tree′) where
     few : length ts ≤ capacity token-width table
     few = leb-true (length ts) (capacity token-width table) fits
 
@@ -102,11 +102,11 @@ module _ (setting : ℕ) (text table tree : List ℕ) {r : Bounded} {l : Limits}
     good-tree = rw (good, room-is, fits, le-leb (length ts) (length text) (tokens-few text e))
 
     -- the tree part's answer for every meaning of the tokens
-    answered : (s : Sense) → Means idl (map kind ts) s →
+    answered : (s : Sense) → Means E (map kind ts) s →
         (reply ≡ tree-reply (length text) ts (verdict setting (capacity node-width tree) (map kind ts) s))
         × (tree′ ≡ tree-after (verdict setting (capacity node-width tree) (map kind ts) s) tree)
     answered =
-        subst (λ (l : List (List ℕ)). (s : Sense) → Means idl (map kind l) s →
+        subst (λ (l : List (List ℕ)). (s : Sense) → Means E (map kind l) s →
         (reply ≡ tree-reply (length text) l (verdict setting (capacity node-width tree) (map kind l) s))
         × (tree′ ≡ tree-after (verdict setting (capacity node-width tree) (map kind l) s) tree))
         (read-back token-width (drop (token-width * length ts) table) three-wide) (judged .inside good-tree)
@@ -114,35 +114,35 @@ module _ (setting : ℕ) (text table tree : List ℕ) {r : Bounded} {l : Limits}
     zeroed-is : zeroed (front token-width ts table) ≡ zeroed table
     zeroed-is = rw (length-kept token-width table three-wide few)
 
-    right : (s : Sense) → Means idl (map kind ts) s → (tokens′ : List ℕ) →
+    right : (s : Sense) → Means E (map kind ts) s → (tokens′ : List ℕ) →
         ((v : Verdict) → reply ≡ tree-reply (length text) ts v → tokens′ ≡ tokens-kept v ts table) → Right reply tokens′ tree′ (read ts s)
     unfolding Right text-verdict text-reply text-tokens-after text-tree-after
     right s m tokens′ kept =
         let a = answered s m in
         rw (le-ltb (capacity token-width table) (length ts) few) (a .0, (kept (verdict setting (capacity node-width tree) (map kind ts) s) (a .0), a .1))
 
-    both-right : (sense : TextSense) → TextMeans idl text sense → (tokens′ : List ℕ) →
+    both-right : (sense : TextSense) → TextMeans E text sense → (tokens′ : List ℕ) →
         ((v : Verdict) → reply ≡ tree-reply (length text) ts v → tokens′ ≡ tokens-kept v ts table) → Right reply tokens′ tree′ sense
     both-right sense (means-fault e′) tokens′ kept = let z : _≡_ {A = ℕ} 0 1 = cc in absurd (omega arith)
     both-right sense (means-tokens {ts = ts′} {sense = s} e′ m) tokens′ kept =
         let p : ts ≡ ts′ = cc in
         subst (λ (l : List (List ℕ)). Right reply tokens′ tree′ (read l s)) p
-        (right s (subst (λ (l : List (List ℕ)). Means idl (map kind l) s) (sym p) m) tokens′ kept)
+        (right s (subst (λ (l : List (List ℕ)). Means E (map kind l) s) (sym p) m) tokens′ kept)
 
-    accepted-right : reply .number ≡ 0 → (sense : TextSense) → TextMeans idl text sense → Right reply (front token-width ts table) tree′ sense
+    accepted-right : reply .number ≡ 0 → (sense : TextSense) → TextMeans E text sense → Right reply (front token-width ts table) tree′ sense
     accepted-right z sense m =
         both-right sense m (front token-width ts table) (λ v a. sym (tokens-stay (length text) ts table v (sym (ap (λ (r : Reply). r .number) a) ∙ z)))
 
-    denied-right : (reply .number ≡ 0 → ⊥) → (sense : TextSense) → TextMeans idl text sense →
+    denied-right : (reply .number ≡ 0 → ⊥) → (sense : TextSense) → TextMeans E text sense →
         Right reply (zeroed (front token-width ts table)) tree′ sense
     denied-right n sense m =
         both-right sense m (zeroed (front token-width ts table))
         (λ v a. zeroed-is ∙ sym (kept-refused (length text) ts table v (λ z. n (ap (λ (r : Reply). r .number) a ∙ z))))
 
-  pub refused : {reply : Reply} {tokens′ tree′ : List ℕ} → reply ≡ token-reply text table → tokens′ ≡ token-table text table →
-      (reply .number ≡ 0 → ⊥) → tree′ ≡ zeroed tree → Answered idl text table tree setting reply tokens′ tree′
+  pub refused : {E : Edition} {reply : Reply} {tokens′ tree′ : List ℕ} → reply ≡ token-reply text table → tokens′ ≡ token-table text table →
+      (reply .number ≡ 0 → ⊥) → tree′ ≡ zeroed tree → Answered E text table tree setting reply tokens′ tree′
   unfolding Right
-  refused {reply} a b n c = record {
+  refused {reply = reply} a b n c = record {
     outside = λ u. absurd (true≢false (sym good ∙ u));
     inside = λ u sense m.
         let r = refused-right sense m (λ z. n (ap (λ (r : Reply). r .number) (a ∙ reply-is) ∙ z)) in
@@ -171,16 +171,16 @@ module _ (setting : ℕ) (text table tree : List ℕ) {r : Bounded} {l : Limits}
       go (tokens ts) e c d = roomy ts e (room table ts) refl c d
       go (fault number place) e c d = let w = ap (λ (r : Reply). r .number) c in absurd (omega (arith, fault-range number place .0))
 
-  module _ {found : Reply} {middle : List ℕ} (a : found ≡ token-reply text table) (b : middle ≡ token-table text table)
+  module _ {E : Edition} {found : Reply} {middle : List ℕ} (a : found ≡ token-reply text table) (b : middle ≡ token-table text table)
       (z : found .number ≡ 0) {count : ℕ} (k : count ≡ found .tokens) {reply : Reply} {tree′ : List ℕ}
-      (judged : TreeAnswered idl middle count (length text) tree setting reply tree′) where
+      (judged : TreeAnswered E middle count (length text) tree setting reply tree′) where
     judged-list : (x : Accepted found middle) →
-        TreeAnswered idl (front token-width (x .list) table) (length (x .list)) (length text) tree setting reply tree′
+        TreeAnswered E (front token-width (x .list) table) (length (x .list)) (length text) tree setting reply tree′
     judged-list x =
-        subst (λ (n : ℕ). TreeAnswered idl (front token-width (x .list) table) n (length text) tree setting reply tree′) (k ∙ x .counted)
-        (subst (λ (l : List ℕ). TreeAnswered idl l count (length text) tree setting reply tree′) (x .table-now) judged)
+        subst (λ (n : ℕ). TreeAnswered E (front token-width (x .list) table) n (length text) tree setting reply tree′) (k ∙ x .counted)
+        (subst (λ (l : List ℕ). TreeAnswered E l count (length text) tree setting reply tree′) (x .table-now) judged)
 
-    pub accepted : reply .number ≡ 0 → Answered idl text table tree setting reply middle tree′
+    pub accepted : reply .number ≡ 0 → Answered E text table tree setting reply middle tree′
     unfolding Right
     accepted n =
         let x = some-tokens found middle a b z in
@@ -192,7 +192,7 @@ module _ (setting : ℕ) (text table tree : List ℕ) {r : Bounded} {l : Limits}
         }
 
     pub denied : {tokens′ : List ℕ} → (reply .number ≡ 0 → ⊥) → tokens′ ≡ zeroed middle →
-        Answered idl text table tree setting reply tokens′ tree′
+        Answered E text table tree setting reply tokens′ tree′
     unfolding Right
     denied n c =
         let x = some-tokens found middle a b z in
@@ -204,9 +204,9 @@ module _ (setting : ℕ) (text table tree : List ℕ) {r : Bounded} {l : Limits}
         }
 
 -- a bad call
-pub beyond : (setting : ℕ) (text table tree : List ℕ) {r : Bounded} {reply : Reply} →
+pub beyond : {E : Edition} (setting : ℕ) (text table tree : List ℕ) {r : Bounded} {reply : Reply} →
     r ≡ bounded (length text) setting → r ≡ Beyond → reply ≡ rows.outside-limits →
-    Answered idl text table tree setting reply table tree
+    Answered E text table tree setting reply table tree
 beyond setting text table tree a b e = record {
   outside = λ u. (e, (refl, refl));
   inside = λ u. absurd (true≢false (sym u ∙ beyond-bad (length text) setting a b));

@@ -12,14 +12,16 @@ use Rattle.prediction.specs.Sets.{decide}
 use Rattle.prediction.specs.Plan.{Plan, call, token, seq, wrap}
 use Rattle.grammar.specs.Forest.{Forest}
 use Rattle.prediction.specs.Run.{Outcome, Runs, run-seq, run-seq-stop}
-use Rattle.prediction.proofs.IdlChecked.{idl-table}
+use Rattle.prediction.specs.Renaming.{Inside, renamed}
+use Rattle.readers_core.specs.Course.{Course, Shares, table-in}
 use Rattle.readers_core.specs.Reading.{kind-at, ahead, half, stop, Short, view, State, Seen, Does, From, Reads, none-recorded}
 use Rattle.readers_core.specs.Reading.{Opens, opens-inside, opens-stopped}
 use Rattle.readers_core.proofs.Shapes.{leaves}
-use Rattle.readers_core.proofs.Sequence.{does-call, does-stays, taken, _▸_, unrecorded}
+use Rattle.readers_core.proofs.Sequence.{does-call, does-stays, read-as, taken, _▸_, unrecorded}
 use Rattle.readers_core.proofs.Views.{goes-on, going-at, has-stopped, onward-answers, onward-at, onward-count}
 use Rattle.readers_core.proofs.Views.{onward-goes, onward-there}
-use Rattle.readers_core.proofs.Choosing.{Known, Knows, choose, run-chosen, one-of, run-one-of}
+use Rattle.readers_core.proofs.Choosing.{Known, Knows, choose, run-chosen, inside-choose, choose-shared, one-of, run-one-of}
+use Rattle.readers_core.proofs.Choosing.{one-of-shared}
 
 pub going : (n : ℕ) → (n ≡ 0) ⊎ (n ≡ 0 → ⊥)
 going zero = inl refl
@@ -51,15 +53,15 @@ module _ (ks : List ℕ) (k s : ℕ) (h : Short ks) (z : 0 < k) (e : kind-at ks 
   there : s < stop → kind-at ks (view s .at) ≡ k
   there low = ap (λ (i : ℕ). kind-at ks i) (going-at s low) ∙ e
 
-  pub moves-past : {d start : ℕ} {hs w : List ℕ} → From ks d start hs (token k) (s, w) (s + 1, w)
-  moves-past {d} {start} {hs} {w} = go (decide (ltb s stop))
+  pub moves-past : {R : Course} {d start : ℕ} {hs w : List ℕ} → From R ks d start hs (token k) (s, w) (s + 1, w)
+  moves-past {R} {d} {start} {hs} {w} = go (decide (ltb s stop))
     where
-      go : T (ltb s stop) ⊎ T (not (ltb s stop)) → From ks d start hs (token k) (s, w) (s + 1, w)
+      go : T (ltb s stop) ⊎ T (not (ltb s stop)) → From R ks d start hs (token k) (s, w) (s + 1, w)
       go (inl u) =
           let low = ltb→lt s stop u in
           taken (goes-on s low) (there low) (onward-goes s low fits) (onward-at s low fits) (onward-count s low fits)
       go (inr u) = record {
-        does = λ b _ _. does-stays (has-stopped s (nltb→le s stop u)) (record {
+        does = λ _ _ b _ _. does-stays (has-stopped s (nltb→le s stop u)) (record {
           answers = onward-answers s (nltb→le s stop u) fits;
           places = onward-there s (nltb→le s stop u) fits;
         });
@@ -77,72 +79,74 @@ module _ (ks : List ℕ) (k s : ℕ) (h : Short ks) (z : 0 < k) (e : kind-at ks 
           let high = nltb→le s stop u in
           opens-stopped (has-stopped s high) (onward-answers s high fits) (onward-there s high fits)
 
--- what a plan comes to, as the next kind tells
-pub chosen : {ks : List ℕ} {d x : ℕ} {p : Plan} {start : ℕ} {hs : List ℕ} {s s′ : State} (k : Known) →
-    x ≡ ahead ks (s .0) → Knows k x → From ks d start hs (choose idl-table k p) s s′ → From ks d start hs p s s′
-chosen {ks} {d} {x} {p} {start} {hs} {s} k e h y = record {
-  does = λ b i j. record {
-    stays = y .does b i j .stays;
-    runs = λ z f v.
-        let r = y .does b i j .runs z f v in
-        let known = subst (λ (n : ℕ). Knows k n) (e ∙ ahead-kind ks (s .0) z) h in
-        record { outcome = r .outcome; run = run-chosen (kind-at ks) k known p (r .run); ends = r .ends };
-  };
-}
+-- what is known of the kind ahead is known of the token there
+pub known-there : (ks : List ℕ) (s : ℕ) (k : Known) {x : ℕ} → x ≡ ahead ks s → Knows k x → view s .answer ≡ 0 →
+    Knows k (kind-at ks (view s .at))
+known-there ks s k e h z = subst (λ (n : ℕ). Knows k n) (e ∙ ahead-kind ks s z) h
 
--- a choice between tokens, of which the next is one, and what stands behind it
-pub taken-of : {ks : List ℕ} {d x : ℕ} {p q : Plan} {start : ℕ} {hs : List ℕ} {s s′ : State} (k : Known) →
-    x ≡ ahead ks (s .0) → Knows k x → T (one-of k p) → From ks d start hs (seq (token x) q) s s′ →
-    From ks d start hs (seq p q) s s′
-taken-of {ks} {d} {x} {p} {q} {start} {hs} {s} {s′} k e h u y = record {
-  does = λ b i j. record {
-    stays = y .does b i j .stays;
-    runs = λ z f v. let r = y .does b i j .runs z f v in
-        record { outcome = r .outcome; run = first z (r .run); ends = r .ends };
-  };
-}
-  where
-    one : {f : Forest} {o : Outcome} → view (s .0) .answer ≡ 0 → Runs idl-table (kind-at ks) d (token x) (view (s .0) .at) f o →
-        Runs idl-table (kind-at ks) d p (view (s .0) .at) f o
-    one {f} {o} z r =
-        let here = e ∙ ahead-kind ks (s .0) z in
-        run-one-of (kind-at ks) k (subst (λ (n : ℕ). Knows k n) here h) p u
-        (subst (λ (n : ℕ). Runs idl-table (kind-at ks) d (token n) (view (s .0) .at) f o) here r)
+module _ {R : Course} {ks : List ℕ} {d : ℕ} where
+  -- what a plan comes to, as the next kind tells
+  pub chosen : {x : ℕ} {p : Plan} {start : ℕ} {hs : List ℕ} {s s′ : State} (k : Known) → x ≡ ahead ks (s .0) → Knows k x →
+      From R ks d start hs (choose (table-in R) k p) s s′ → From R ks d start hs p s s′
+  chosen {p = p} {s = s} k e h = read-as (λ C m u. (
+    inside-choose (m .rule) (table-in R) k p u,
+    λ z f o r.
+        run-chosen C (kind-at ks) k (known-there ks (s .0) k e h z) (renamed (m .number) p)
+        (subst (λ (q : Plan). Runs (table-in C) (kind-at ks) d q (view (s .0) .at) f o) (sym (choose-shared m k p u)) r),
+  ))
 
-    first : {f : Forest} {o : Outcome} → view (s .0) .answer ≡ 0 →
-        Runs idl-table (kind-at ks) d (seq (token x) q) (view (s .0) .at) f o → Runs idl-table (kind-at ks) d (seq p q) (view (s .0) .at) f o
-    first z (run-seq r r′) = run-seq (one z r) r′
-    first z (run-seq-stop r c) = run-seq-stop (one z r) c
+  -- a choice between tokens, of which the next is one, and what stands behind it
+  pub taken-of : {x : ℕ} {p q : Plan} {start : ℕ} {hs : List ℕ} {s s′ : State} (k : Known) → x ≡ ahead ks (s .0) → Knows k x →
+      T (one-of (table-in R) k p) → From R ks d start hs (seq (token x) q) s s′ → From R ks d start hs (seq p q) s s′
+  unfolding Inside renamed
+  taken-of {x} {p} {q} {s = s} k e h t = read-as (λ C m u. ((tt, u .1), λ z f o. first m (u .0) z))
+    where
+      one : {C : Course} (m : Shares R C) → Inside (m .rule) p → {f : Forest} {o : Outcome} → view (s .0) .answer ≡ 0 →
+          Runs (table-in C) (kind-at ks) d (token x) (view (s .0) .at) f o →
+          Runs (table-in C) (kind-at ks) d (renamed (m .number) p) (view (s .0) .at) f o
+      one {C} m u {f} {o} z r =
+          run-one-of C (kind-at ks) k (known-there ks (s .0) k e h z) (renamed (m .number) p)
+          (subst (λ (b : Bool). T b) (sym (one-of-shared m k p u)) t)
+          (subst (λ (n : ℕ). Runs (table-in C) (kind-at ks) d (token n) (view (s .0) .at) f o) (e ∙ ahead-kind ks (s .0) z) r)
 
--- a frame of its own, from `s` to `u`
-pub frame : (m : ℕ) {ks : List ℕ} {d s u : ℕ} {w w′ : List ℕ} →
-    From ks d s (0 ∷ []) (idl-table .plan m) (s, w) (u, w′) → Reads ks d (call m) (s, w) (u, w′)
-frame m {ks} {d} {s} {u} {w} {w′} x =
-    record { in-any = λ start hs. record { does = λ c _ _. go c hs (going (view s .answer)) } }
-  where
-    inner : Does ks d (0 ∷ []) (idl-table .plan m) (view s, w) (view s, w) (view u, w′)
-    inner = x .does (view s, w) refl refl
+      first : {C : Course} (m : Shares R C) → Inside (m .rule) p → view (s .0) .answer ≡ 0 → {f : Forest} {o : Outcome} →
+          Runs (table-in C) (kind-at ks) d (seq (token x) (renamed (m .number) q)) (view (s .0) .at) f o →
+          Runs (table-in C) (kind-at ks) d (seq (renamed (m .number) p) (renamed (m .number) q)) (view (s .0) .at) f o
+      first m u z (run-seq r r′) = run-seq (one m u z r) r′
+      first m u z (run-seq-stop r c) = run-seq-stop (one m u z r) c
 
-    go : (c : Seen) (hs : List ℕ) → (view s .answer ≡ 0) ⊎ (view s .answer ≡ 0 → ⊥) →
-        Does ks d hs (call m) c (view s, w) (view u, w′)
-    go c hs (inl z) = does-call m z inner
-    go c hs (inr n) = does-stays n (inner .stays n)
+  module _ (n : ℕ) {s u : ℕ} {w w′ : List ℕ} where
+    -- a frame of its own, from `s` to `u`
+    pub frame : From R ks d s (0 ∷ []) (table-in R .plan n) (s, w) (u, w′) → Reads R ks d (call n) (s, w) (u, w′)
+    unfolding Inside renamed
+    frame x =
+        record { in-any = λ start hs. record { does = λ m v c _ _. go m v c hs (going (view s .answer)) } }
+      where
+        inner : {C : Course} (m : Shares R C) → T (m .rule n) →
+            Does C ks d (0 ∷ []) (table-in C .plan (m .number n)) (view s, w) (view s, w) (view u, w′)
+        inner {C} m v =
+            subst (λ (p : Plan). Does C ks d (0 ∷ []) p (view s, w) (view s, w) (view u, w′)) (sym (m .same-plan n v))
+            (x .does m (m .closed n v) (view s, w) refl refl)
 
--- the same, for a rule whose plan is p
-pub frame-by : (m : ℕ) {p : Plan} {ks : List ℕ} {d s u : ℕ} {w w′ : List ℕ} → idl-table .plan m ≡ p →
-    From ks d s (0 ∷ []) p (s, w) (u, w′) → Reads ks d (call m) (s, w) (u, w′)
-frame-by m {p} {ks} {d} {s} {u} {w} {w′} q x =
-    frame m (subst (λ (z : Plan). From ks d s (0 ∷ []) z (s, w) (u, w′)) (sym q) x)
+        go : {C : Course} (m : Shares R C) → T (m .rule n) → (c : Seen) (hs : List ℕ) →
+            (view s .answer ≡ 0) ⊎ (view s .answer ≡ 0 → ⊥) → Does C ks d hs (call (m .number n)) c (view s, w) (view u, w′)
+        go m v c hs (inl z) = does-call (m .number n) z (inner m v)
+        go m v c hs (inr n′) = does-stays n′ (inner m v .stays n′)
 
--- the same, with what its plan comes to as the next kind tells
-pub frame-on : (m : ℕ) {ks : List ℕ} {d x s u : ℕ} {w w′ : List ℕ} (k : Known) → x ≡ ahead ks s → Knows k x →
-    From ks d s (0 ∷ []) (choose idl-table k (idl-table .plan m)) (s, w) (u, w′) → Reads ks d (call m) (s, w) (u, w′)
-frame-on m k e h y = frame m (chosen k e h y)
+    -- the same, for a rule whose plan is p
+    pub frame-by : {p : Plan} → table-in R .plan n ≡ p → From R ks d s (0 ∷ []) p (s, w) (u, w′) →
+        Reads R ks d (call n) (s, w) (u, w′)
+    frame-by q x = frame (subst (λ (z : Plan). From R ks d s (0 ∷ []) z (s, w) (u, w′)) (sym q) x)
 
--- a rule whose right side is here exactly one nonterminal leaves no record: it is read as that nonterminal
-pub passed-on : (m : ℕ) {q : Plan} {ks : List ℕ} {d x s u : ℕ} {w w′ : List ℕ} (k : Known) → x ≡ ahead ks s →
-    Knows k x → choose idl-table k (idl-table .plan m) ≡ seq q (wrap m) → T (none-recorded m (leaves q (0 ∷ []))) →
-    Reads ks d q (s, w) (u, w′) → Reads ks d (call m) (s, w) (u, w′)
-passed-on m {q} {ks} {d} {x} {s} {u} {w} {w′} k e h c t y =
-    frame-on m k e h
-    (subst (λ (p : Plan). From ks d s (0 ∷ []) p (s, w) (u, w′)) (sym c) (y .in-any s (0 ∷ []) ▸ unrecorded t))
+    -- the same, with what its plan comes to as the next kind tells
+    pub frame-on : {x : ℕ} (k : Known) → x ≡ ahead ks s → Knows k x →
+        From R ks d s (0 ∷ []) (choose (table-in R) k (table-in R .plan n)) (s, w) (u, w′) → Reads R ks d (call n) (s, w) (u, w′)
+    frame-on k e h y = frame (chosen k e h y)
+
+    -- a rule whose right side is here exactly one nonterminal leaves no record: it is read as that nonterminal
+    pub passed-on : {q : Plan} {x : ℕ} (k : Known) → x ≡ ahead ks s → Knows k x →
+        choose (table-in R) k (table-in R .plan n) ≡ seq q (wrap n) → T (none-recorded R n (leaves q (0 ∷ []))) →
+        Reads R ks d q (s, w) (u, w′) → Reads R ks d (call n) (s, w) (u, w′)
+    passed-on k e h c t y =
+        frame-on k e h
+        (subst (λ (p : Plan). From R ks d s (0 ∷ []) p (s, w) (u, w′)) (sym c) (y .in-any s (0 ∷ []) ▸ unrecorded t))

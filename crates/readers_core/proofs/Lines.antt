@@ -1,14 +1,17 @@
 -- A plan behind the last part of another: what was read by the one and then by the other was read by the row that they make.
 -- By induction on the plan in front. Assumes nothing.
 use Prim.Native.Nat.{ℕ}
+use mathlib.Core.Bool.{Bool}
 use mathlib.Core.List.{List}
 use Rattle.grammar.specs.Forest.{Forest}
 use Rattle.prediction.specs.Plan.{Plan, token, group, call, wrap, seq, alt, skip, many}
 use Rattle.prediction.specs.Run.{Outcome, stopped, Runs, run-seq, run-seq-stop}
-use Rattle.prediction.proofs.IdlChecked.{idl-table}
+use Rattle.prediction.specs.Renaming.{Inside, renamed}
+use Rattle.prediction.specs.Typing.{Table}
+use Rattle.readers_core.specs.Course.{Course}
 use Rattle.readers_core.specs.Reading.{State, From}
 use Rattle.readers_core.proofs.Shapes.{leaves}
-use Rattle.readers_core.proofs.Sequence.{_▸_}
+use Rattle.readers_core.proofs.Sequence.{_▸_, read-as}
 
 -- the parts of the first plan, and the second behind them
 unfoldable pub append : Plan → Plan → Plan
@@ -21,30 +24,34 @@ append (alt a b) e = seq (alt a b) e
 append skip e = seq skip e
 append (many a) e = seq (many a) e
 
-run-append : {s : ℕ → ℕ} {d i : ℕ} (p : Plan) {e : Plan} {f : Forest} {x : Outcome} → Runs idl-table s d (seq p e) i f x →
-    Runs idl-table s d (append p e) i f x
-unfolding append stopped
-run-append (seq a b) (run-seq (run-seq r r′) r″) = run-seq r (run-append b (run-seq r′ r″))
-run-append (seq a b) (run-seq (run-seq-stop r z) r′) = absurd z
-run-append (seq a b) (run-seq-stop (run-seq r r′) z) = run-seq r (run-append b (run-seq-stop r′ z))
-run-append (seq a b) (run-seq-stop (run-seq-stop r z) z′) = run-seq-stop r z
-run-append (token k) r = r
-run-append (group o b c) r = r
-run-append (call n) r = r
-run-append (wrap k) r = r
-run-append (alt a b) r = r
-run-append skip r = r
-run-append (many a) r = r
+run-append : {t : Table} {s : ℕ → ℕ} {d i : ℕ} (number : ℕ → ℕ) (p e : Plan) {f : Forest} {x : Outcome} →
+    Runs t s d (seq (renamed number p) (renamed number e)) i f x → Runs t s d (renamed number (append p e)) i f x
+unfolding append renamed stopped
+run-append n (seq a b) e (run-seq (run-seq r r′) r″) = run-seq r (run-append n b e (run-seq r′ r″))
+run-append n (seq a b) e (run-seq (run-seq-stop r z) r′) = absurd z
+run-append n (seq a b) e (run-seq-stop (run-seq r r′) z) = run-seq r (run-append n b e (run-seq-stop r′ z))
+run-append n (seq a b) e (run-seq-stop (run-seq-stop r z) z′) = run-seq-stop r z
+run-append n (token k) e r = r
+run-append n (group o b c) e r = r
+run-append n (call k) e r = r
+run-append n (wrap k) e r = r
+run-append n (alt a b) e r = r
+run-append n skip e r = r
+run-append n (many a) e r = r
+
+inside-append : (S : ℕ → Bool) (p e : Plan) → Inside S (append p e) → Inside S p × Inside S e
+unfolding append Inside
+inside-append S (seq a b) e u = let v = inside-append S b e (u .1) in ((u .0, v .0), v .1)
+inside-append S (token k) e u = u
+inside-append S (group o b c) e u = u
+inside-append S (call k) e u = u
+inside-append S (wrap k) e u = u
+inside-append S (alt a b) e u = u
+inside-append S skip e u = u
+inside-append S (many a) e u = u
 
 infixr 5 _▸▸_
-pub _▸▸_ : {ks : List ℕ} {d start : ℕ} {hs : List ℕ} {p e : Plan} {s s′ s″ : State} → From ks d start hs p s s′ →
-    From ks d start (leaves p hs) e s′ s″ → From ks d start hs (append p e) s s″
-_▸▸_ {p = p} x y = record {
-  does = λ b i j.
-      let z = (x ▸ y) .does b i j in
-      record {
-        stays = z .stays;
-        runs = λ g f v. let r = z .runs g f v in
-            record { outcome = r .outcome; run = run-append p (r .run); ends = r .ends };
-      };
-}
+pub _▸▸_ : {R : Course} {ks : List ℕ} {d start : ℕ} {hs : List ℕ} {p e : Plan} {s s′ s″ : State} → From R ks d start hs p s s′ →
+    From R ks d start (leaves p hs) e s′ s″ → From R ks d start hs (append p e) s s″
+unfolding Inside renamed
+_▸▸_ {p = p} {e = e} x y = read-as (λ C m u. (inside-append (m .rule) p e u, λ z f o. run-append (m .number) p e)) (x ▸ y)

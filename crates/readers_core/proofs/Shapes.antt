@@ -8,7 +8,6 @@ use mathlib.Core.Logic.{_⊎_, ⊎-elim}
 use lib.Dec.{T, eqb, eqb→eq}
 use Rattle.grammar.specs.Forest.{Forest, end, leaf, node, join}
 use Rattle.grammar.proofs.Forest.{join-end}
-use Rattle.grammar.specs.Idl.{idl}
 use Rattle.grammar.specs.Record.{shape, recorded}
 use Rattle.grammar.specs.Sets.{elem}
 use Rattle.prediction.specs.Sets.{and-left, and-right, or-left, or-right, or-cases, subset, subset-in, elem-left, elem-right}
@@ -17,11 +16,12 @@ use Rattle.prediction.specs.Plan.{Plan, token, group, call, wrap, seq, alt, ski
 use Rattle.prediction.specs.Run.{done, stopped, Runs, run-token, run-inside, run-group, run-call}
 use Rattle.prediction.specs.Run.{run-call-stop, run-wrap, run-seq, run-seq-stop, run-left, run-right}
 use Rattle.prediction.specs.Run.{run-skip, run-last, run-more, run-more-stop}
-use Rattle.prediction.specs.Columns.{plan-at, round, every, every-at}
-use Rattle.prediction.specs.Check.{table}
-use Rattle.prediction.specs.IdlPlans.{idl-prediction}
-use Rattle.prediction.proofs.IdlChecked.{idl-table}
+use Rattle.prediction.specs.Columns.{plan-at, round, every-at}
+use Rattle.prediction.specs.Check.{table, plans-of}
+use Rattle.prediction.specs.Renaming.{renamed}
+use Rattle.readers_core.specs.Course.{Course, Shares, leaves-one, table-in}
 use Rattle.readers_core.specs.Reading.{all-recorded, none-recorded}
+use Rattle.readers_core.proofs.Sharing.{recorded-shared}
 
 -- the shape of two forests side by side
 unfoldable pub beside : ℕ → ℕ → ℕ
@@ -51,48 +51,33 @@ shape-join (node (node f k′ e′) k e) (node end r c) = refl
 shape-join (node (node f k′ e′) k e) (node (leaf g l) r c) = refl
 shape-join (node (node f k′ e′) k e) (node (node g r′ c′) r c) = refl
 
--- a plan leaves one node; where e holds, if it began with one
-leaves-one : Bool → Plan → Bool
-leaves-one e (wrap r) = true
-leaves-one e (seq a b) = leaves-one (leaves-one e a) b
-leaves-one e (alt a b) = leaves-one e a && leaves-one e b
-leaves-one e (many a) = e && leaves-one false a
-leaves-one e skip = e
-leaves-one e (token k) = false
-leaves-one e (group o b c) = false
-leaves-one e (call n) = false
-
-all-leave-one : T (every (leaves-one false) (idl-prediction .plans))
-unfolding every leaves-one idl-prediction
-all-leave-one = tt
-
-plan-leaves-one : (n : ℕ) → T (leaves-one false (idl-table .plan n))
+plan-leaves-one : (C : Course) (n : ℕ) → T (leaves-one false (table-in C .plan n))
 unfolding table round plan-at leaves-one
-plan-leaves-one n = every-at (leaves-one false) (idl-prediction .plans) (seq skip (wrap n)) tt all-leave-one n
+plan-leaves-one C n = every-at (leaves-one false) (plans-of (C .checked)) (seq skip (wrap n)) tt (C .closes) n
 
-closed : {s : ℕ → ℕ} {d i j : ℕ} {p : Plan} {f g : Forest} (e : Bool) → T (leaves-one e p) → (T e → shape f ≡ 1) →
-    Runs idl-table s d p i f (done j g) → shape g ≡ 1
+closed : (C : Course) {s : ℕ → ℕ} {d i j : ℕ} {p : Plan} {f g : Forest} (e : Bool) → T (leaves-one e p) →
+    (T e → shape f ≡ 1) → Runs (table-in C) s d p i f (done j g) → shape g ≡ 1
 unfolding leaves-one shape stopped
-closed e u h run-wrap = refl
-closed {p = seq a b} e u h (run-seq r r′) = closed (leaves-one e a) u (λ v. closed e v h r) r′
-closed e u h (run-seq-stop r z) = absurd z
-closed {p = alt a b} e u h (run-left v r) = closed e (and-left (leaves-one e a) (leaves-one e b) u) h r
-closed {p = alt a b} e u h (run-right v v′ r) = closed e (and-right (leaves-one e a) (leaves-one e b) u) h r
-closed e u h run-skip = h u
-closed {p = many a} e u h (run-last v) = h (and-left e (leaves-one false a) u)
-closed {p = many a} e u h (run-more v r r′) =
-    closed e u (λ _. closed false (and-right e (leaves-one false a) u) (λ z. absurd z) r) r′
-closed e u h (run-more-stop v r z) = absurd z
-closed e u h (run-token v) = absurd u
-closed e u h (run-inside v r z) = absurd u
-closed e u h (run-group v r v′) = absurd u
-closed e u h (run-call r v) = absurd u
-closed e u h (run-call-stop r z) = absurd u
+closed C e u h run-wrap = refl
+closed C {p = seq a b} e u h (run-seq r r′) = closed C (leaves-one e a) u (λ v. closed C e v h r) r′
+closed C e u h (run-seq-stop r z) = absurd z
+closed C {p = alt a b} e u h (run-left v r) = closed C e (and-left (leaves-one e a) (leaves-one e b) u) h r
+closed C {p = alt a b} e u h (run-right v v′ r) = closed C e (and-right (leaves-one e a) (leaves-one e b) u) h r
+closed C e u h run-skip = h u
+closed C {p = many a} e u h (run-last v) = h (and-left e (leaves-one false a) u)
+closed C {p = many a} e u h (run-more v r r′) =
+    closed C e u (λ _. closed C false (and-right e (leaves-one false a) u) (λ z. absurd z) r) r′
+closed C e u h (run-more-stop v r z) = absurd z
+closed C e u h (run-token v) = absurd u
+closed C e u h (run-inside v r z) = absurd u
+closed C e u h (run-group v r v′) = absurd u
+closed C e u h (run-call r v) = absurd u
+closed C e u h (run-call-stop r z) = absurd u
 
 -- a rule leaves one node
-pub one-node : {s : ℕ → ℕ} {d i j : ℕ} (n : ℕ) {g : Forest} → Runs idl-table s d (idl-table .plan n) i end (done j g) →
-    shape g ≡ 1
-one-node n r = closed false (plan-leaves-one n) (λ z. absurd z) r
+pub one-node : (C : Course) {s : ℕ → ℕ} {d i j : ℕ} (n : ℕ) {g : Forest} →
+    Runs (table-in C) s d (table-in C .plan n) i end (done j g) → shape g ≡ 1
+one-node C n r = closed C false (plan-leaves-one C n) (λ z. absurd z) r
 
 -- the shapes with a node more
 unfoldable pub one-more : List ℕ → List ℕ
@@ -153,28 +138,46 @@ turned-in g hs after k = go (subset after hs) k
     go false k = any-shape g
 
 -- what a plan leaves has one of its shapes
-pub shapes : {s : ℕ → ℕ} {d i j : ℕ} (p : Plan) {f g : Forest} (hs : List ℕ) → Runs idl-table s d p i f (done j g) →
-    T (elem (shape f) hs) → T (elem (shape g) (leaves p hs))
+run-leaves : (C : Course) {s : ℕ → ℕ} {d i j : ℕ} (p : Plan) {f g : Forest} (hs : List ℕ) →
+    Runs (table-in C) s d p i f (done j g) → T (elem (shape f) hs) → T (elem (shape g) (leaves p hs))
 unfolding leaves shape stopped
-shapes (token k) {g = g} hs (run-token e) u = is-one g 2 refl
-shapes (group o b c) hs (run-inside e r z) u = absurd z
-shapes (group o b c) {g = g} hs (run-group e r e′) u = is-one g 2 refl
-shapes (call n) {f = f} hs (run-call {h = h} r e) u =
+run-leaves C (token k) {g = g} hs (run-token e) u = is-one g 2 refl
+run-leaves C (group o b c) hs (run-inside e r z) u = absurd z
+run-leaves C (group o b c) {g = g} hs (run-group e r e′) u = is-one g 2 refl
+run-leaves C (call n) {f = f} hs (run-call {h = h} r e) u =
     subst (λ (z : ℕ). T (elem z (one-more hs)))
-    (ap (λ (z : ℕ). beside (shape f) z) (sym (one-node n r)) ∙ shape-join f h ∙ sym (ap shape e))
+    (ap (λ (z : ℕ). beside (shape f) z) (sym (one-node C n r)) ∙ shape-join f h ∙ sym (ap shape e))
     (more-in (shape f) hs u)
-shapes (call n) hs (run-call-stop r z) u = absurd z
-shapes (wrap r) {g = g} hs run-wrap u = is-one g 1 refl
-shapes (seq a b) hs (run-seq r r′) u = shapes b (leaves a hs) r′ (shapes a hs r u)
-shapes (seq a b) hs (run-seq-stop r z) u = absurd z
-shapes (alt a b) {g = g} hs (run-left v r) u = elem-left (shape g) (leaves a hs) (leaves b hs) (shapes a hs r u)
-shapes (alt a b) {g = g} hs (run-right v v′ r) u = elem-right (shape g) (leaves a hs) (leaves b hs) (shapes b hs r u)
-shapes skip hs run-skip u = u
-shapes (many a) {f = f} hs (run-last v) u = kept-in f hs (leaves a hs) u
-shapes (many a) {g = g} hs (run-more {h = h} v r r′) u =
+run-leaves C (call n) hs (run-call-stop r z) u = absurd z
+run-leaves C (wrap r) {g = g} hs run-wrap u = is-one g 1 refl
+run-leaves C (seq a b) hs (run-seq r r′) u = run-leaves C b (leaves a hs) r′ (run-leaves C a hs r u)
+run-leaves C (seq a b) hs (run-seq-stop r z) u = absurd z
+run-leaves C (alt a b) {g = g} hs (run-left v r) u = elem-left (shape g) (leaves a hs) (leaves b hs) (run-leaves C a hs r u)
+run-leaves C (alt a b) {g = g} hs (run-right v v′ r) u = elem-right (shape g) (leaves a hs) (leaves b hs) (run-leaves C b hs r u)
+run-leaves C skip hs run-skip u = u
+run-leaves C (many a) {f = f} hs (run-last v) u = kept-in f hs (leaves a hs) u
+run-leaves C (many a) {g = g} hs (run-more {h = h} v r r′) u =
     turned-in g hs (leaves a hs)
-    (λ c. shapes (many a) hs r′ (subset-in (shape h) (leaves a hs) hs c (shapes a hs r u)))
-shapes (many a) hs (run-more-stop v r z) u = absurd z
+    (λ c. run-leaves C (many a) hs r′ (subset-in (shape h) (leaves a hs) hs c (run-leaves C a hs r u)))
+run-leaves C (many a) hs (run-more-stop v r z) u = absurd z
+
+-- which has the same shapes under other numbers
+leaves-renamed : (number : ℕ → ℕ) (p : Plan) (hs : List ℕ) → leaves (renamed number p) hs ≡ leaves p hs
+unfolding leaves renamed
+leaves-renamed number (token k) hs = refl
+leaves-renamed number (group o b c) hs = refl
+leaves-renamed number (call n) hs = refl
+leaves-renamed number (wrap r) hs = refl
+leaves-renamed number (seq a b) hs =
+    leaves-renamed number b (leaves (renamed number a) hs) ∙ ap (leaves b) (leaves-renamed number a hs)
+leaves-renamed number (alt a b) hs = rw (leaves-renamed number a hs, leaves-renamed number b hs)
+leaves-renamed number skip hs = refl
+leaves-renamed number (many a) hs = rw (leaves-renamed number a hs)
+
+pub shapes : (C : Course) (number : ℕ → ℕ) {s : ℕ → ℕ} {d i j : ℕ} (p : Plan) {f g : Forest} (hs : List ℕ) →
+    Runs (table-in C) s d (renamed number p) i f (done j g) → T (elem (shape f) hs) → T (elem (shape g) (leaves p hs))
+shapes C number p {g = g} hs r u =
+    subst (λ (l : List ℕ). T (elem (shape g) l)) (leaves-renamed number p hs) (run-leaves C (renamed number p) hs r u)
 
 truly : (b : Bool) → T b → b ≡ true
 truly true u = refl
@@ -184,28 +187,28 @@ falsely : (b : Bool) → T (not b) → b ≡ false
 falsely true u = absurd u
 falsely false u = refl
 
-in-all : (r h : ℕ) (hs : List ℕ) → T (all-recorded r hs) → T (elem h hs) → recorded idl r h ≡ true
-unfolding all-recorded elem
-in-all r h [] u v = absurd v
-in-all r h (k ∷ hs) u v =
-    ⊎-elim (λ e. subst (λ (z : ℕ). recorded idl r z ≡ true) (sym (eqb→eq h k e))
-    (truly (recorded idl r k) (and-left (recorded idl r k) (all-recorded r hs) u)))
-    (λ e. in-all r h hs (and-right (recorded idl r k) (all-recorded r hs) u) e) (or-cases (eqb h k) (elem h hs) v)
+module _ (R : Course) where
+  in-all : (r h : ℕ) (hs : List ℕ) → T (all-recorded R r hs) → T (elem h hs) → recorded (R .edition) r h ≡ true
+  unfolding all-recorded elem
+  in-all r h [] u v = absurd v
+  in-all r h (k ∷ hs) u v =
+      ⊎-elim (λ e. subst (λ (z : ℕ). recorded (R .edition) r z ≡ true) (sym (eqb→eq h k e))
+      (truly (recorded (R .edition) r k) (and-left (recorded (R .edition) r k) (all-recorded R r hs) u)))
+      (λ e. in-all r h hs (and-right (recorded (R .edition) r k) (all-recorded R r hs) u) e) (or-cases (eqb h k) (elem h hs) v)
 
-in-none : (r h : ℕ) (hs : List ℕ) → T (none-recorded r hs) → T (elem h hs) → recorded idl r h ≡ false
-unfolding none-recorded elem
-in-none r h [] u v = absurd v
-in-none r h (k ∷ hs) u v =
-    ⊎-elim (λ e. subst (λ (z : ℕ). recorded idl r z ≡ false) (sym (eqb→eq h k e))
-    (falsely (recorded idl r k) (and-left (not (recorded idl r k)) (none-recorded r hs) u)))
-    (λ e. in-none r h hs (and-right (not (recorded idl r k)) (none-recorded r hs) u) e)
-    (or-cases (eqb h k) (elem h hs) v)
+  in-none : (r h : ℕ) (hs : List ℕ) → T (none-recorded R r hs) → T (elem h hs) → recorded (R .edition) r h ≡ false
+  unfolding none-recorded elem
+  in-none r h [] u v = absurd v
+  in-none r h (k ∷ hs) u v =
+      ⊎-elim (λ e. subst (λ (z : ℕ). recorded (R .edition) r z ≡ false) (sym (eqb→eq h k e))
+      (falsely (recorded (R .edition) r k) (and-left (not (recorded (R .edition) r k)) (none-recorded R r hs) u)))
+      (λ e. in-none r h hs (and-right (not (recorded (R .edition) r k)) (none-recorded R r hs) u) e)
+      (or-cases (eqb h k) (elem h hs) v)
 
--- a rule is recorded over what was read; it is not
-pub recorded-over : (r : ℕ) (hs : List ℕ) (f : Forest) → T (all-recorded r hs) → T (elem (shape f) hs) →
-    recorded idl r (shape f) ≡ true
-recorded-over r hs f u v = in-all r (shape f) hs u v
+-- a shared rule is recorded over what was read; it is not
+module _ {R C : Course} (m : Shares R C) (r : ℕ) (shared : T (m .rule r)) (hs : List ℕ) (f : Forest) where
+  pub recorded-over : T (all-recorded R r hs) → T (elem (shape f) hs) → recorded (C .edition) (m .number r) (shape f) ≡ true
+  recorded-over u v = recorded-shared m r (shape f) shared ∙ in-all R r (shape f) hs u v
 
-pub unrecorded-over : (r : ℕ) (hs : List ℕ) (f : Forest) → T (none-recorded r hs) → T (elem (shape f) hs) →
-    recorded idl r (shape f) ≡ false
-unrecorded-over r hs f u v = in-none r (shape f) hs u v
+  pub unrecorded-over : T (none-recorded R r hs) → T (elem (shape f) hs) → recorded (C .edition) (m .number r) (shape f) ≡ false
+  unrecorded-over u v = recorded-shared m r (shape f) shared ∙ in-none R r (shape f) hs u v

@@ -8,11 +8,12 @@ use lib.Dec.{T, eqb, ltb}
 use lib.ListN.{getD, length}
 use Rattle.grammar.specs.Forest.{Forest, width}
 use Rattle.grammar.specs.Idl.{idl}
-use Rattle.grammar.specs.Record.{TreeRecord, tree-record, shape, recorded, records}
+use Rattle.grammar.specs.Record.{TreeRecord, tree-record, shape, recorded}
 use Rattle.grammar.specs.Sets.{elem}
 use Rattle.prediction.specs.Plan.{Plan, call, wrap}
+use Rattle.prediction.specs.Renaming.{Inside, renamed}
 use Rattle.prediction.specs.Run.{Outcome, done, blame, deep, Runs}
-use Rattle.prediction.proofs.IdlChecked.{idl-table}
+use Rattle.readers_core.specs.Course.{Course, Shares, table-in, noted}
 use Rattle.tables.specs.Tables.{token-width, node-width, put}
 
 -- the kind of token i of a token table, 0 past its end
@@ -88,39 +89,78 @@ Seen = Reading × List ℕ
 abbrev pub seen : State → Seen
 seen s = (view (s .0), s .1)
 
--- the frame that began in state b has read the forest f
-pub record Held (b : Seen) (f : Forest) (s : Seen) : Type 0 where
-  pub at-is : s .0 .at ≡ b .0 .at + width f
-  pub count-is : s .0 .count ≡ counted (b .0 .count + length (records idl (b .0 .at) f))
-  pub table-is : s .1 ≡ writes (b .1) (b .0 .count) (records idl (b .0 .at) f)
-
--- how a run from s, in the frame that began in state b and has read f, ends in s′
-pub data Ends (b : Seen) (f : Forest) (s s′ : Seen) : Outcome → Type 0 where
-  ends-done : {j : ℕ} {g : Forest} → s′ .0 .answer ≡ 0 → s′ .0 .at ≡ j → (Held b f s → Held b g s′) →
-      Ends b f s s′ (done j g)
-  ends-blame : {q : ℕ} → s′ .0 .answer ≡ 7 → s′ .0 .at ≡ q → Ends b f s s′ (blame q)
-  ends-deep : {q : ℕ} → s′ .0 .answer ≡ 8 → s′ .0 .at ≡ q → Ends b f s s′ (deep q)
-
-pub record Ran (ks : List ℕ) (d : ℕ) (p : Plan) (b : Seen) (f : Forest) (s s′ : Seen) : Type 0 where
-  pub outcome : Outcome
-  pub run : Runs idl-table (kind-at ks) d p (s .0 .at) f outcome
-  pub ends : Ends b f s s′ outcome
-
 -- a stop stays: its answer and its place
 pub record Stays (s s′ : Seen) : Type 0 where
   pub answers : s′ .0 .answer ≡ s .0 .answer
   pub places : s′ .0 .at ≡ s .0 .at
 
--- reading by plan p, on the token table ks with d levels of depth left, in the frame that began in state b and has read
--- a forest of one of the shapes hs
-pub record Does (ks : List ℕ) (d : ℕ) (hs : List ℕ) (p : Plan) (b s s′ : Seen) : Type 0 where
-  pub stays : (s .0 .answer ≡ 0 → ⊥) → Stays s s′
-  pub runs : s .0 .answer ≡ 0 → (f : Forest) → T (elem (shape f) hs) → Ran ks d p b f s s′
+-- in the course C
+module _ (C : Course) where
+  -- the frame that began in state b has read the forest f
+  pub record Held (b : Seen) (f : Forest) (s : Seen) : Type 0 where
+    pub at-is : s .0 .at ≡ b .0 .at + width f
+    pub count-is : s .0 .count ≡ counted (b .0 .count + length (noted C (b .0 .at) f))
+    pub table-is : s .1 ≡ writes (b .1) (b .0 .count) (noted C (b .0 .at) f)
 
--- in the frame that began where `start` stands, with one of the shapes hs before
-pub record From (ks : List ℕ) (d start : ℕ) (hs : List ℕ) (p : Plan) (s s′ : State) : Type 0 where
-  pub does : (b : Seen) → b .0 .at ≡ view start .at → b .0 .count ≡ view start .count →
-      Does ks d hs p b (seen s) (seen s′)
+  -- how a run from s, in the frame that began in state b and has read f, ends in s′
+  pub data Ends (b : Seen) (f : Forest) (s s′ : Seen) : Outcome → Type 0 where
+    ends-done : {j : ℕ} {g : Forest} → s′ .0 .answer ≡ 0 → s′ .0 .at ≡ j → (Held b f s → Held b g s′) →
+        Ends b f s s′ (done j g)
+    ends-blame : {q : ℕ} → s′ .0 .answer ≡ 7 → s′ .0 .at ≡ q → Ends b f s s′ (blame q)
+    ends-deep : {q : ℕ} → s′ .0 .answer ≡ 8 → s′ .0 .at ≡ q → Ends b f s s′ (deep q)
+
+  pub record Ran (ks : List ℕ) (d : ℕ) (p : Plan) (b : Seen) (f : Forest) (s s′ : Seen) : Type 0 where
+    pub outcome : Outcome
+    pub run : Runs (table-in C) (kind-at ks) d p (s .0 .at) f outcome
+    pub ends : Ends b f s s′ outcome
+
+  -- reading by plan p, on the token table ks with d levels of depth left, in the frame that began in state b and has read
+  -- a forest of one of the shapes hs
+  pub record Does (ks : List ℕ) (d : ℕ) (hs : List ℕ) (p : Plan) (b s s′ : Seen) : Type 0 where
+    pub stays : (s .0 .answer ≡ 0 → ⊥) → Stays s s′
+    pub runs : s .0 .answer ≡ 0 → (f : Forest) → T (elem (shape f) hs) → Ran ks d p b f s s′
+
+-- by the plans of the course R, in each course that shares the rules which they name
+module _ (R : Course) where
+  -- in the frame that began where `start` stands, with one of the shapes hs before
+  pub record From (ks : List ℕ) (d start : ℕ) (hs : List ℕ) (p : Plan) (s s′ : State) : Type 0 where
+    pub does : {C : Course} (m : Shares R C) → Inside (m .rule) p → (b : Seen) → b .0 .at ≡ view start .at →
+        b .0 .count ≡ view start .count → Does C ks d hs (renamed (m .number) p) b (seen s) (seen s′)
+
+  -- in the frame that began where `start` stands, whatever its shape
+  pub record Within (ks : List ℕ) (d start : ℕ) (p : Plan) (s s′ : State) : Type 0 where
+    pub of-any : (hs : List ℕ) → From ks d start hs p s s′
+
+  -- in any frame
+  pub record Reads (ks : List ℕ) (d : ℕ) (p : Plan) (s s′ : State) : Type 0 where
+    pub in-any : (start : ℕ) (hs : List ℕ) → From ks d start hs p s s′
+
+  -- in any frame, whatever the depth
+  pub record Flat (ks : List ℕ) (p : Plan) (s s′ : State) : Type 0 where
+    pub at-any : (d : ℕ) → Reads ks d p s s′
+
+  -- in the frame that began where `start` stands, whatever the depth
+  pub record FlatWithin (ks : List ℕ) (start : ℕ) (p : Plan) (s s′ : State) : Type 0 where
+    pub at-any : (d : ℕ) → Within ks d start p s s′
+
+  -- with one of the shapes hs before, whatever the depth
+  pub record FlatFrom (ks : List ℕ) (start : ℕ) (hs : List ℕ) (p : Plan) (s s′ : State) : Type 0 where
+    pub at-any : (d : ℕ) → From ks d start hs p s s′
+
+  -- rule n, where its plan is p
+  pub record Follows (ks : List ℕ) (d n : ℕ) (p : Plan) (s s′ : State) : Type 0 where
+    pub reads : table-in R .plan n ≡ p → Reads ks d (call n) s s′
+
+  -- a use of rule r is recorded over each of these shapes; over none of them: tests that compute in edition 1
+  unfoldable pub all-recorded : ℕ → List ℕ → Bool
+  unfolding recorded idl
+  all-recorded r [] = true
+  all-recorded r (h ∷ hs) = recorded (R .edition) r h && all-recorded r hs
+
+  unfoldable pub none-recorded : ℕ → List ℕ → Bool
+  unfolding recorded idl
+  none-recorded r [] = true
+  none-recorded r (h ∷ hs) = not (recorded (R .edition) r h) && none-recorded r hs
 
 -- the shapes of nothing, and of all but nothing and one node
 abbrev pub nothing : List ℕ
@@ -129,51 +169,18 @@ nothing = 0 ∷ []
 abbrev pub several : List ℕ
 several = 2 ∷ []
 
--- in the frame that began where `start` stands, whatever its shape
-pub record Within (ks : List ℕ) (d start : ℕ) (p : Plan) (s s′ : State) : Type 0 where
-  pub of-any : (hs : List ℕ) → From ks d start hs p s s′
-
--- in any frame
-pub record Reads (ks : List ℕ) (d : ℕ) (p : Plan) (s s′ : State) : Type 0 where
-  pub in-any : (start : ℕ) (hs : List ℕ) → From ks d start hs p s s′
-
--- in any frame, whatever the depth
-pub record Flat (ks : List ℕ) (p : Plan) (s s′ : State) : Type 0 where
-  pub at-any : (d : ℕ) → Reads ks d p s s′
-
--- in the frame that began where `start` stands, whatever the depth
-pub record FlatWithin (ks : List ℕ) (start : ℕ) (p : Plan) (s s′ : State) : Type 0 where
-  pub at-any : (d : ℕ) → Within ks d start p s s′
-
--- with one of the shapes hs before, whatever the depth
-pub record FlatFrom (ks : List ℕ) (start : ℕ) (hs : List ℕ) (p : Plan) (s s′ : State) : Type 0 where
-  pub at-any : (d : ℕ) → From ks d start hs p s s′
-
--- rule n, where its plan is p; and whatever the depth
-pub record Follows (ks : List ℕ) (d n : ℕ) (p : Plan) (s s′ : State) : Type 0 where
-  pub reads : idl-table .plan n ≡ p → Reads ks d (call n) s s′
-
-pub record FlatFollows (ks : List ℕ) (n : ℕ) (p : Plan) (s s′ : State) : Type 0 where
-  pub reads : idl-table .plan n ≡ p → Flat ks (call n) s s′
-
--- tokens alone, whatever the depth and the tree table
+-- tokens alone, in every course, whatever the depth and the tree table
 pub record Takes (ks : List ℕ) (p : Plan) (s s′ : ℕ) : Type 0 where
-  pub reads : (d : ℕ) (w : List ℕ) → Reads ks d p (s, w) (s′, w)
+  pub reads : {R : Course} (d : ℕ) (w : List ℕ) → Reads R ks d p (s, w) (s′, w)
 
--- a use of rule r is recorded over each of these shapes; over none of them
-unfoldable pub all-recorded : ℕ → List ℕ → Bool
-unfolding recorded idl
-all-recorded r [] = true
-all-recorded r (h ∷ hs) = recorded idl r h && all-recorded r hs
+-- what was read since `start` becomes a node of the rule that readers write as n, with its record, in every course
+pub record Closes (n start : ℕ) (s s′ : State) : Type 0 where
+  pub wraps : {R : Course} {r : ℕ} → R .code r ≡ n → (ks : List ℕ) (d : ℕ) (hs : List ℕ) → T (all-recorded R r hs) →
+      From R ks d start hs (wrap r) s s′
 
-unfoldable pub none-recorded : ℕ → List ℕ → Bool
-unfolding recorded idl
-none-recorded r [] = true
-none-recorded r (h ∷ hs) = not (recorded idl r h) && none-recorded r hs
-
--- what was read since `start` becomes a node of rule r, with its record
-pub record Closes (r start : ℕ) (s s′ : State) : Type 0 where
-  pub wraps : (ks : List ℕ) (d : ℕ) (hs : List ℕ) → T (all-recorded r hs) → From ks d start hs (wrap r) s s′
+-- the rule that readers write as n, in every course where its plan is p, whatever the depth
+pub record FlatFollows (ks : List ℕ) (n : ℕ) (p : ℕ → Plan) (s s′ : State) : Type 0 where
+  pub reads : {R : Course} {r : ℕ} → R .code r ≡ n → table-in R .plan r ≡ p r → Flat R ks (call r) s s′
 
 -- an opening mark k, with d levels of depth left
 pub data Opens (ks : List ℕ) (d k : ℕ) (s s′ : ℕ) : Type 0 where

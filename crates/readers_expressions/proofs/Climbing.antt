@@ -10,13 +10,14 @@ use Rattle.grammar.specs.Record.{shape}
 use Rattle.grammar.specs.Sets.{elem}
 use Rattle.prediction.specs.Plan.{token, call, wrap}
 use Rattle.prediction.specs.Run.{Outcome, Runs, run-wrap}
-use Rattle.prediction.proofs.IdlChecked.{idl-table}
+use Rattle.readers_core.specs.Course.{one, table-in}
 use Rattle.readers_core.specs.Reading.{kind-at, ahead, view, State, seen, Ends, ends-done, From, nothing, several, Reads}
 use Rattle.readers_core.specs.Reading.{Takes, Closes, none-recorded}
 use Rattle.readers_core.proofs.Choosing.{Knows, among, except, any-elem, elem-any}
 use Rattle.readers_core.proofs.Frames.{ahead-kind, ahead-none, frame-by, going}
 use Rattle.readers_core.proofs.Repetition.{Far, far-here, far-more, far-over, falls, remaining}
 use Rattle.readers_core.proofs.Sequence.{_▸_, unrecorded}
+use Rattle.readers_core.proofs.Sharing.{at-home}
 use Rattle.readers_core.proofs.Shapes.{leaves}
 use Rattle.readers_expressions.specs.Levels.{operators, further-operand, level-of}
 use Rattle.readers_expressions.proofs.Operations.{Level, at-level, apart, of-level, Found, leveled, operated}
@@ -24,20 +25,20 @@ use Rattle.readers_expressions.proofs.Operations.{Level, at-level, apar
 -- in the repetition of level l: its first operand was read from s, and further ones up to t
 pub record Open (ks : List ℕ) (d l : ℕ) (s t : State) : Type 0 where
   pub first : State
-  pub operand : Reads ks d (call (l + 1)) s first
-  pub far : Far ks d (s .0) (further-operand l) first t
+  pub operand : Reads one ks d (call (l + 1)) s first
+  pub far : Far one ks d (s .0) (further-operand l) first t
 
 -- where an operator of level `level` or above is next, its level is open; else the level itself is read
 pub record Ready (ks : List ℕ) (d level : ℕ) (s t : State) : Type 0 where
   pub on : {x k : ℕ} → x ≡ ahead ks (t .0) → k ≡ level-of x → level ≤ k → Open ks d k s t
-  pub over : {x k : ℕ} → x ≡ ahead ks (t .0) → k ≡ level-of x → k < level → Reads ks d (call level) s t
+  pub over : {x k : ℕ} → x ≡ ahead ks (t .0) → k ≡ level-of x → k < level → Reads one ks d (call level) s t
 
 module _ {ks : List ℕ} {d : ℕ} {s t : State} where
   -- what a level's first operand opens; and its end, where no operator of the level is next
-  lower : (l : ℕ) → Reads ks d (call (l + 1)) s t → Open ks d l s t
+  lower : (l : ℕ) → Reads one ks d (call (l + 1)) s t → Open ks d l s t
   lower l r = record { first = t; operand = r; far = far-here }
 
-  shut : (l : ℕ) → 30 ≤ l → l ≤ 35 → (level-of (ahead ks (t .0)) ≡ l → ⊥) → Open ks d l s t → Reads ks d (call l) s t
+  shut : (l : ℕ) → 30 ≤ l → l ≤ 35 → (level-of (ahead ks (t .0)) ≡ l → ⊥) → Open ks d l s t → Reads one ks d (call l) s t
   unfolding Knows leaves none-recorded
   shut l low high n o =
       let v = at-level l low high in
@@ -47,16 +48,16 @@ module _ {ks : List ℕ} {d : ℕ} {s t : State} where
       (1 ∷ []))
 
   -- from level m down to level l, k levels below
-  down : (k l m : ℕ) → m ≡ l + k → 30 ≤ l → m ≤ 36 → level-of (ahead ks (t .0)) < l → Reads ks d (call m) s t →
-      Reads ks d (call l) s t
-  down zero l m e low high h r = subst (λ (n : ℕ). Reads ks d (call n) s t) (omega arith) r
+  down : (k l m : ℕ) → m ≡ l + k → 30 ≤ l → m ≤ 36 → level-of (ahead ks (t .0)) < l → Reads one ks d (call m) s t →
+      Reads one ks d (call l) s t
+  down zero l m e low high h r = subst (λ (n : ℕ). Reads one ks d (call n) s t) (omega arith) r
   down (suc k) l m e low high h r =
       shut l low (omega arith) (λ u. omega (arith, h, u))
       (lower l (down k (l + 1) m (omega arith) (omega arith) high (omega (arith, h)) r))
 
   -- a rule of a level is read, and the next operator is looser
   pub settled : (level m : ℕ) → 30 ≤ level → level ≤ m → m ≤ 36 → level-of (ahead ks (t .0)) < m →
-      Reads ks d (call m) s t → Ready ks d level s t
+      Reads one ks d (call m) s t → Ready ks d level s t
   settled level m low le high h r = record {
     on = λ {x} {k} e e′ u. let n = e′ ∙ ap level-of e in
         lower k (down (m - (k + 1)) (k + 1) m (omega (arith, n, h)) (omega (arith, u)) high (omega (arith, n)) r);
@@ -77,25 +78,25 @@ module _ {ks : List ℕ} {d : ℕ} {s t : State} where
       go (inr other) = settled level k low le (omega arith) (omega (arith, h, other)) (shut k (omega arith) high other o)
 
 -- a node does not move on
-same-ahead : (ks : List ℕ) {r start : ℕ} {s s′ : State} → From ks 0 start several (wrap r) s s′ →
+same-ahead : (ks : List ℕ) {r start : ℕ} {s s′ : State} → From one ks 0 start several (wrap r) s s′ →
     ahead ks (s′ .0) ≡ ahead ks (s .0)
 unfolding shape elem
 same-ahead ks {r} {start} {s} {s′} x = go (going (view (s .0) .answer))
   where
-    stands : {o : Outcome} → view (s .0) .answer ≡ 0 → Runs idl-table (kind-at ks) 0 (wrap r) (view (s .0) .at) (leaf end 0) o →
-        Ends (view start, []) (leaf end 0) (seen s) (seen s′) o → ahead ks (s′ .0) ≡ ahead ks (s .0)
+    stands : {o : Outcome} → view (s .0) .answer ≡ 0 → Runs (table-in one) (kind-at ks) 0 (wrap r) (view (s .0) .at) (leaf end 0) o →
+        Ends one (view start, []) (leaf end 0) (seen s) (seen s′) o → ahead ks (s′ .0) ≡ ahead ks (s .0)
     stands z run-wrap (ends-done e e′ k) =
         ahead-kind ks (s′ .0) e ∙ ap (kind-at ks) e′ ∙ sym (ahead-kind ks (s .0) z)
 
     go : (view (s .0) .answer ≡ 0) ⊎ (view (s .0) .answer ≡ 0 → ⊥) → ahead ks (s′ .0) ≡ ahead ks (s .0)
-    go (inl z) = let y = x .does (view start, []) refl refl .runs z (leaf end 0) tt in stands z (y .run) (y .ends)
+    go (inl z) = let y = at-home x (view start, []) refl refl .runs z (leaf end 0) tt in stands z (y .run) (y .ends)
     go (inr n) =
-        let y = x .does (view start, []) refl refl .stays n in
+        let y = at-home x (view start, []) refl refl .stays n in
         sym (ahead-none ks (s′ .0) (λ e. n (sym (y .answers) ∙ e))) ∙ ahead-none ks (s .0) n
 
 -- one turn: an operator x of level k, its right operand, and the node of all since `start`
 module _ {ks : List ℕ} {d k x start t m o u : ℕ} {w w′ w″ : List ℕ} (low : 30 ≤ k) (e : x ≡ ahead ks t)
-    (e′ : k ≡ level-of x) (takes : Takes ks (token x) t m) (reads : Reads ks d (call (k + 1)) (m, w) (o, w′))
+    (e′ : k ≡ level-of x) (takes : Takes ks (token x) t m) (reads : Reads one ks d (call (k + 1)) (m, w) (o, w′))
     (closes : Closes k start (o, w′) (u, w″)) where
   its : Found k x
   its = leveled k x e′ low
@@ -103,11 +104,11 @@ module _ {ks : List ℕ} {d k x start t m o u : ℕ} {w w′ w″ : List ℕ} (l
   at : Level k
   at = at-level k low (its .high)
 
-  turn : (hs : List ℕ) → From ks d start hs (further-operand k) (t, w) (u, w″)
+  turn : (hs : List ℕ) → From one ks d start hs (further-operand k) (t, w) (u, w″)
   unfolding further-operand leaves
   turn hs =
       operated (operators k) e (its .has) (takes .reads d w .in-any start hs ▸ reads .in-any start _) ▸
-      closes .wraps ks d _ (at .joined hs)
+      closes .wraps refl ks d _ (at .joined hs)
 
   pub less : remaining ks u < remaining ks t
   unfolding Knows
@@ -118,7 +119,7 @@ module _ {ks : List ℕ} {d k x start t m o u : ℕ} {w w′ w″ : List ℕ} (l
   unfolding Knows
   climbed level above le looser r =
       let before = r .on e e′ le in
-      let same = ap level-of (same-ahead ks (closes .wraps ks 0 several (at .together))) in
+      let same = ap level-of (same-ahead ks (closes .wraps refl ks 0 several (at .together))) in
       turned level k above le (its .high) (omega (arith, same, looser)) (record {
         first = before .first;
         operand = before .operand;

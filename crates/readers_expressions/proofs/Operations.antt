@@ -1,5 +1,6 @@
 -- What each level of binary operators is, by its number; what the level of a kind tells; and an operator of a level with its
 -- right operand, where it is next. The six levels are computed. Assumes nothing.
+use Rattle.grammar.specs.Idl.{idl}
 use Prim.Native.Nat.{ℕ, zero, suc, _+_, _≤_, _<_}
 use native.Mathlib.Omega.{arith}
 use mathlib.Core.Path.{_≡_, refl, sym, _∙_, subst}
@@ -11,17 +12,19 @@ use Rattle.grammar.specs.Forest.{Forest}
 use Rattle.grammar.specs.Sets.{elem}
 use Rattle.prediction.specs.Sets.{decide, and-left, and-right, or-left, or-cases, only, eq→eqb}
 use Rattle.prediction.specs.Plan.{Plan, token, call, wrap, seq, alt, many}
+use Rattle.prediction.specs.Renaming.{Inside, renamed}
 use Rattle.prediction.specs.Typing.{null, first}
 use Rattle.prediction.specs.Run.{Outcome, Runs}
 use Rattle.prediction.proofs.Choice.{run-then, run-else}
 use Rattle.prediction.specs.Columns.{plan-at, round}
 use Rattle.prediction.specs.Check.{all-typed, null-exactly, table}
 use Rattle.prediction.specs.IdlPlans.{idl-prediction}
-use Rattle.prediction.proofs.IdlChecked.{idl-checked, idl-table}
+use Rattle.readers_core.specs.Course.{Course, one, table-in}
 use Rattle.readers_core.specs.Reading.{kind-at, ahead, view, State, From, several, all-recorded, none-recorded}
 use Rattle.readers_core.proofs.Choosing.{among, except, is-over, row}
 use Rattle.readers_core.proofs.Frames.{ahead-kind}
 use Rattle.readers_core.proofs.Repetition.{repeats}
+use Rattle.readers_core.proofs.Sequence.{read-as}
 use Rattle.readers_core.proofs.Shapes.{leaves}
 use Rattle.readers_expressions.specs.Levels.{operators, one-before, further-operand, first-with, level-of}
 
@@ -40,12 +43,12 @@ kind-at-hand f (k ∷ ks) x u v =
 -- what a level is: its first operand, alone without a record, and further ones as long as its operators are next; these are
 -- operators of no other level, and stand between the first and the last of all
 pub record Level (n : ℕ) : Type 0 where
-  pub plan : idl-table .plan n ≡ seq (call (n + 1)) (seq (wrap n) (many (further-operand n)))
-  pub alone : T (none-recorded n (1 ∷ []))
-  pub together : T (all-recorded n several)
-  pub joined : (hs : List ℕ) → T (all-recorded n (leaves (one-before (operators n) (call (n + 1))) hs))
-  pub goes-on : T (repeats (among (operators n)) (further-operand n))
-  pub is-over : T (is-over idl-table (except (operators n ∷ [])) (further-operand n))
+  pub plan : table-in one .plan n ≡ seq (call (n + 1)) (seq (wrap n) (many (further-operand n)))
+  pub alone : T (none-recorded one n (1 ∷ []))
+  pub together : T (all-recorded one n several)
+  pub joined : (hs : List ℕ) → T (all-recorded one n (leaves (one-before (operators n) (call (n + 1))) hs))
+  pub goes-on : T (repeats (table-in one) (among (operators n)) (further-operand n))
+  pub is-over : T (is-over (table-in one) (except (operators n ∷ [])) (further-operand n))
   pub own : T (each-kind (λ k. eqb (level-of k) n) (operators n))
   pub within : T (each-kind (λ k. leb 77 k && leb k 86) (operators n))
 
@@ -118,50 +121,58 @@ outside x h = ⊎-elim sym (λ f. absurd (far (between (at-level (level-of x) (f
     far b = ⊎-elim (λ u. omega (arith, u, b .0)) (λ u. omega (arith, u, b .1)) h
 
 -- one of the tokens is next, and p behind it
-run-one-before : (s : ℕ → ℕ) {d i : ℕ} (ks : List ℕ) {p : Plan} {f : Forest} {x : Outcome} → T (elem (s i) ks) →
-    Runs idl-table s d (seq (token (s i)) p) i f x → Runs idl-table s d (one-before ks p) i f x
-unfolding one-before elem null first only
-run-one-before s [] u r = absurd u
-run-one-before s {d} {i} (k ∷ []) {p} {f} {x} u r = go (or-cases (eqb (s i) k) false u)
-  where
-    go : T (eqb (s i) k) ⊎ T false → Runs idl-table s d (seq (token k) p) i f x
-    go (inl v) = subst (λ (n : ℕ). Runs idl-table s d (seq (token n) p) i f x) (eqb→eq (s i) k v) r
-    go (inr v) = absurd v
-run-one-before s {d} {i} (k ∷ (l ∷ ls)) {p} {f} {x} u r =
-    go (decide (eqb (s i) k)) (or-cases (eqb (s i) k) (elem (s i) (l ∷ ls)) u) (λ v. run-one-before s (l ∷ ls) v r)
-  where
-    go : T (eqb (s i) k) ⊎ T (not (eqb (s i) k)) → T (eqb (s i) k) ⊎ T (elem (s i) (l ∷ ls)) →
-        (T (elem (s i) (l ∷ ls)) → Runs idl-table s d (one-before (l ∷ ls) p) i f x) →
-        Runs idl-table s d (alt (seq (token k) p) (one-before (l ∷ ls) p)) i f x
-    go (inl v) w q =
-        run-then idl-table (all-typed idl-checked) s (null-exactly idl-checked) (seq (token k) p)
-        (one-before (l ∷ ls) p) (or-left (eqb (s i) k) false v)
-        (subst (λ (n : ℕ). Runs idl-table s d (seq (token n) p) i f x) (eqb→eq (s i) k v) r)
-    go (inr v) (inl w) q = absurd (T-not (eqb (s i) k) v w)
-    go (inr v) (inr w) q =
-        run-else idl-table (all-typed idl-checked) s (null-exactly idl-checked) (seq (token k) p)
-        (one-before (l ∷ ls) p) (λ z. none (or-cases (eqb (s i) k) false z)) (λ z. z)
-        (q w)
-      where
-        none : T (eqb (s i) k) ⊎ T false → ⊥
-        none (inl z) = T-not (eqb (s i) k) v z
-        none (inr z) = z
+module _ (C : Course) where
+  run-one-before : (s : ℕ → ℕ) {d i : ℕ} (ks : List ℕ) {p : Plan} {f : Forest} {x : Outcome} → T (elem (s i) ks) →
+      Runs (table-in C) s d (seq (token (s i)) p) i f x → Runs (table-in C) s d (one-before ks p) i f x
+  unfolding one-before elem null first only
+  run-one-before s [] u r = absurd u
+  run-one-before s {d} {i} (k ∷ []) {p} {f} {x} u r = go (or-cases (eqb (s i) k) false u)
+    where
+      go : T (eqb (s i) k) ⊎ T false → Runs (table-in C) s d (seq (token k) p) i f x
+      go (inl v) = subst (λ (n : ℕ). Runs (table-in C) s d (seq (token n) p) i f x) (eqb→eq (s i) k v) r
+      go (inr v) = absurd v
+  run-one-before s {d} {i} (k ∷ (l ∷ ls)) {p} {f} {x} u r =
+      go (decide (eqb (s i) k)) (or-cases (eqb (s i) k) (elem (s i) (l ∷ ls)) u) (λ v. run-one-before s (l ∷ ls) v r)
+    where
+      go : T (eqb (s i) k) ⊎ T (not (eqb (s i) k)) → T (eqb (s i) k) ⊎ T (elem (s i) (l ∷ ls)) →
+          (T (elem (s i) (l ∷ ls)) → Runs (table-in C) s d (one-before (l ∷ ls) p) i f x) →
+          Runs (table-in C) s d (alt (seq (token k) p) (one-before (l ∷ ls) p)) i f x
+      go (inl v) w q =
+          run-then (table-in C) (all-typed (C .checked)) s (null-exactly (C .checked)) (seq (token k) p)
+          (one-before (l ∷ ls) p) (or-left (eqb (s i) k) false v)
+          (subst (λ (n : ℕ). Runs (table-in C) s d (seq (token n) p) i f x) (eqb→eq (s i) k v) r)
+      go (inr v) (inl w) q = absurd (T-not (eqb (s i) k) v w)
+      go (inr v) (inr w) q =
+          run-else (table-in C) (all-typed (C .checked)) s (null-exactly (C .checked)) (seq (token k) p)
+          (one-before (l ∷ ls) p) (λ z. none (or-cases (eqb (s i) k) false z)) (λ z. z)
+          (q w)
+        where
+          none : T (eqb (s i) k) ⊎ T false → ⊥
+          none (inl z) = T-not (eqb (s i) k) v z
+          none (inr z) = z
 
-pub operated : {ks : List ℕ} {d x start : ℕ} {p : Plan} {hs : List ℕ} {s s′ : State} (ops : List ℕ) →
-    x ≡ ahead ks (s .0) → T (elem x ops) → From ks d start hs (seq (token x) p) s s′ →
-    From ks d start hs (one-before ops p) s s′
-operated {ks} {d} {x} {p = p} {s = s} ops e u y = record {
-  does = λ b i j. record {
-    stays = y .does b i j .stays;
-    runs = λ z f v.
-        let r = y .does b i j .runs z f v in
-        let here = e ∙ ahead-kind ks (s .0) z in
-        record {
-          outcome = r .outcome;
-          run = run-one-before (kind-at ks) ops (subst (λ (n : ℕ). T (elem n ops)) here u)
-              (subst (λ (n : ℕ). Runs idl-table (kind-at ks) d (seq (token n) p) (view (s .0) .at) f (r .outcome)) here
-              (r .run));
-          ends = r .ends;
-        };
-  };
-}
+-- the operators name no rule
+renamed-behind : (number : ℕ → ℕ) (ops : List ℕ) (p : Plan) → renamed number (one-before ops p) ≡ one-before ops (renamed number p)
+unfolding one-before renamed
+renamed-behind number [] p = refl
+renamed-behind number (k ∷ []) p = refl
+renamed-behind number (k ∷ (l ∷ ls)) p = rw (renamed-behind number (l ∷ ls) p)
+
+inside-behind : (S : ℕ → Bool) (ops : List ℕ) (x : ℕ) (p : Plan) → T (elem x ops) → Inside S (one-before ops p) → Inside S p
+unfolding one-before Inside elem
+inside-behind S [] x p e u = absurd e
+inside-behind S (k ∷ []) x p e u = u .1
+inside-behind S (k ∷ (l ∷ ls)) x p e u = u .0 .1
+
+pub operated : {R : Course} {ks : List ℕ} {d x start : ℕ} {p : Plan} {hs : List ℕ} {s s′ : State} (ops : List ℕ) →
+    x ≡ ahead ks (s .0) → T (elem x ops) → From R ks d start hs (seq (token x) p) s s′ →
+    From R ks d start hs (one-before ops p) s s′
+unfolding Inside renamed
+operated {ks = ks} {d = d} {x = x} {p = p} {s = s} ops e t = read-as (λ C m u. (
+  (tt, inside-behind (m .rule) ops x p t u),
+  λ z f o r.
+      let here = e ∙ ahead-kind ks (s .0) z in
+      subst (λ (q : Plan). Runs (table-in C) (kind-at ks) d q (view (s .0) .at) f o) (sym (renamed-behind (m .number) ops p))
+      (run-one-before C (kind-at ks) ops (subst (λ (n : ℕ). T (elem n ops)) here t)
+      (subst (λ (n : ℕ). Runs (table-in C) (kind-at ks) d (seq (token n) (renamed (m .number) p)) (view (s .0) .at) f o) here r)),
+))

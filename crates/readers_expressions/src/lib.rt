@@ -3,6 +3,7 @@ ghost use mathlib.Core.Path.{_≡_};
 ghost use Prim.Native.Nat.{_≤_, _<_};
 ghost use Rattle.grammar.specs.Sets.{elem};
 ghost use Rattle.prediction.specs.Plan.{call, group};
+ghost use Rattle.readers_core.specs.Course.{one};
 ghost use Rattle.readers_core.specs.Reading.{ahead, Short, Flat, Reads};
 ghost use Rattle.readers_expressions.specs.Levels.{signs, level-of};
 use readers_core::Reading;
@@ -41,7 +42,7 @@ fn is_sign(kind: u32) -> bool
 // (37) unary_operator
 fn unary_operator(tokens: &[u32], tree: &mut [u32], s: Reading) -> Reading
     requires { ⌜ Short (now tokens) ⌝ }
-    ensures { λ r. ⌜ Flat (now (tokens .entry)) (call 37) (s, now (tree .entry)) (r, now (tree .exit)) ⌝ }
+    ensures { λ r. ⌜ Flat one (now (tokens .entry)) (call 37) (s, now (tree .entry)) (r, now (tree .exit)) ⌝ }
 {
     let next = next_kind(tokens, s);
     match next {
@@ -59,7 +60,7 @@ fn unary_operator(tokens: &[u32], tree: &mut [u32], s: Reading) -> Reading
 // An expression in parentheses, as (38) primary_expr.
 fn parenthesized(tokens: &[u32], tree: &mut [u32], s: Reading, depth: u32) -> Reading
     requires { ⌜ Short (now tokens) ⌝ }
-    ensures { λ r. ⌜ Reads (now (tokens .entry)) depth (group 71 (call 29) 72) (s, now (tree .entry)) (r, now (tree .exit)) ⌝ }
+    ensures { λ r. ⌜ Reads one (now (tokens .entry)) depth (group 71 (call 29) 72) (s, now (tree .entry)) (r, now (tree .exit)) ⌝ }
 {
     let t = open(tokens, s, kind::OPEN_PARENTHESIS, depth);
     if has_stopped(t) {
@@ -72,7 +73,7 @@ fn parenthesized(tokens: &[u32], tree: &mut [u32], s: Reading, depth: u32) -> Re
 // (38) primary_expr
 fn primary(tokens: &[u32], tree: &mut [u32], s: Reading, depth: u32) -> Reading
     requires { ⌜ Short (now tokens) ⌝ }
-    ensures { λ r. ⌜ Reads (now (tokens .entry)) depth (call 38) (s, now (tree .entry)) (r, now (tree .exit)) ⌝ }
+    ensures { λ r. ⌜ Reads one (now (tokens .entry)) depth (call 38) (s, now (tree .entry)) (r, now (tree .exit)) ⌝ }
 {
     let next = next_kind(tokens, s);
     match next {
@@ -88,7 +89,7 @@ fn primary(tokens: &[u32], tree: &mut [u32], s: Reading, depth: u32) -> Reading
 // (36) unary_expr
 fn unary(tokens: &[u32], tree: &mut [u32], s: Reading, depth: u32) -> Reading
     requires { ⌜ Short (now tokens) ⌝ }
-    ensures { λ r. ⌜ Reads (now (tokens .entry)) depth (call 36) (s, now (tree .entry)) (r, now (tree .exit)) ⌝ }
+    ensures { λ r. ⌜ Reads one (now (tokens .entry)) depth (call 36) (s, now (tree .entry)) (r, now (tree .exit)) ⌝ }
 {
     let next = next_kind(tokens, s);
     if is_sign(next) {
@@ -103,7 +104,7 @@ fn unary(tokens: &[u32], tree: &mut [u32], s: Reading, depth: u32) -> Reading
 // its right operand is read, which holds only tighter operators.
 fn binary(tokens: &[u32], tree: &mut [u32], s: Reading, depth: u32, level: u32) -> Reading
     requires { ⌜ Short (now tokens) × (30 ≤ level) × (level ≤ 36) ⌝ }
-    ensures { λ r. ⌜ Reads (now (tokens .entry)) depth (call level) (s, now (tree .entry)) (r, now (tree .exit)) ⌝ }
+    ensures { λ r. ⌜ Reads one (now (tokens .entry)) depth (call level) (s, now (tree .entry)) (r, now (tree .exit)) ⌝ }
     ensures looser { λ r. ⌜ level-of (ahead (now (tokens .entry)) r) < level ⌝ }
 {
     let mut t = unary(&*tokens, tree, s, depth);
@@ -122,7 +123,7 @@ fn binary(tokens: &[u32], tree: &mut [u32], s: Reading, depth: u32, level: u32) 
 // (29) const_exp
 pub fn const_exp(tokens: &[u32], tree: &mut [u32], s: Reading, depth: u32) -> Reading
     requires { ⌜ Short (now tokens) ⌝ }
-    ensures { λ r. ⌜ Reads (now (tokens .entry)) depth (call 29) (s, now (tree .entry)) (r, now (tree .exit)) ⌝ }
+    ensures { λ r. ⌜ Reads one (now (tokens .entry)) depth (call 29) (s, now (tree .entry)) (r, now (tree .exit)) ⌝ }
 {
     binary(&*tokens, tree, s, depth, 30)
 }
@@ -130,7 +131,7 @@ pub fn const_exp(tokens: &[u32], tree: &mut [u32], s: Reading, depth: u32) -> Re
 // (41) positive_int_const
 pub fn positive_int_const(tokens: &[u32], tree: &mut [u32], s: Reading, depth: u32) -> Reading
     requires { ⌜ Short (now tokens) ⌝ }
-    ensures { λ r. ⌜ Reads (now (tokens .entry)) depth (call 41) (s, now (tree .entry)) (r, now (tree .exit)) ⌝ }
+    ensures { λ r. ⌜ Reads one (now (tokens .entry)) depth (call 41) (s, now (tree .entry)) (r, now (tree .exit)) ⌝ }
 {
     const_exp(&*tokens, tree, s, depth)
 }

@@ -8,7 +8,7 @@ use Rattle.prediction.specs.Plan.{Plan, call}
 use Rattle.prediction.specs.Columns.{plan-at, round}
 use Rattle.prediction.specs.Check.{table}
 use Rattle.prediction.specs.IdlPlans.{idl-prediction}
-use Rattle.prediction.proofs.IdlChecked.{idl-table}
+use Rattle.readers_core.specs.Course.{one, table-in}
 use Rattle.readers_core.specs.Reading.{Reads, none-recorded}
 use Rattle.readers_core.proofs.Choosing.{Knows, except, choose}
 use Rattle.readers_core.proofs.Frames.{passed-on}
@@ -16,15 +16,15 @@ use Rattle.readers_core.proofs.Shapes.{leaves}
 use Rattle.readers_interfaces.specs.Plans.{Names}
 
 pub interface-names : Names 11
-unfolding table round plan-at idl-prediction none-recorded idl
+unfolding table round plan-at idl-prediction none-recorded
 interface-names = record { plan-is = refl; no-record = tt }
 
 pub value-names : Names 20
-unfolding table round plan-at idl-prediction none-recorded idl
+unfolding table round plan-at idl-prediction none-recorded
 value-names = record { plan-is = refl; no-record = tt }
 
-pub by-name : {n : ℕ} {ks : List ℕ} {d s u : ℕ} {w w′ : List ℕ} → Names n → Reads ks d (call 12) (s, w) (u, w′) →
-    Reads ks d (call n) (s, w) (u, w′)
+pub by-name : {n : ℕ} {ks : List ℕ} {d s u : ℕ} {w w′ : List ℕ} → Names n → Reads one ks d (call 12) (s, w) (u, w′) →
+    Reads one ks d (call n) (s, w) (u, w′)
 unfolding choose Knows leaves
 by-name {n} h x =
-    passed-on n (except []) refl tt (ap (λ (p : Plan). choose idl-table (except []) p) (h .plan-is)) (h .no-record) x
+    passed-on n (except []) refl tt (ap (λ (p : Plan). choose (table-in one) (except []) p) (h .plan-is)) (h .no-record) x

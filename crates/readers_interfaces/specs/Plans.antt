@@ -5,13 +5,13 @@ use mathlib.Core.Path.{_≡_}
 use mathlib.Core.List.{List, [], _∷_, _++_}
 use lib.Dec.{T}
 use Rattle.prediction.specs.Plan.{Plan, token, group, call, wrap, seq, alt, skip, many}
-use Rattle.prediction.proofs.IdlChecked.{idl-table}
+use Rattle.readers_core.specs.Course.{one, table-in}
 use Rattle.readers_core.specs.Reading.{State, Flat, none-recorded}
 
 -- rule n is a scoped name alone: (11) interface_name, (20) value_name
 pub record Names (n : ℕ) : Type 0 where
-  pub plan-is : idl-table .plan n ≡ seq (call 12) (wrap n)
-  pub no-record : T (none-recorded n (1 ∷ []))
+  pub plan-is : table-in one .plan n ≡ seq (call 12) (wrap n)
+  pub no-record : T (none-recorded one n (1 ∷ []))
 
 -- uses of rule n, with commas between them
 abbrev pub further : ℕ → Plan
@@ -22,7 +22,7 @@ listed n = seq (call n) (many (further n))
 
 -- a list of names, by any rule that is a scoped name alone
 pub record ReadsNames (ks : List ℕ) (s s′ : State) : Type 0 where
-  pub by-rule : (n : ℕ) → Names n → Flat ks (listed n) s s′
+  pub by-rule : (n : ℕ) → Names n → Flat one ks (listed n) s s′
 
 -- the kinds that (42) type_dcl and (9) export may start with, those of identifiers and words before the rest
 abbrev pub type-dcl-starts : List ℕ

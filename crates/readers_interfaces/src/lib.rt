@@ -3,6 +3,7 @@
 ghost use mathlib.Core.Path.{_≡_};
 ghost use Rattle.grammar.specs.Sets.{elem};
 ghost use Rattle.prediction.specs.Plan.{call, many};
+ghost use Rattle.readers_core.specs.Course.{one};
 ghost use Rattle.readers_core.specs.Reading.{Short, Flat, From, Reads, Within, several};
 ghost use Rattle.readers_interfaces.specs.Plans.{ReadsNames, optional-bases, exported, braced-body, interface-body};
 ghost use Rattle.readers_interfaces.specs.Plans.{interface-rest, type-dcl-starts, export-starts};
@@ -36,7 +37,7 @@ pub fn scoped_names(tokens: &[u32], tree: &mut [u32], s: Reading) -> Reading
 // (10) interface_inheritance_spec
 fn interface_inheritance_spec(tokens: &[u32], tree: &mut [u32], s: Reading) -> Reading
     requires { ⌜ Short (now tokens) ⌝ }
-    ensures { λ r. ⌜ Flat (now (tokens .entry)) (call 10) (s, now (tree .entry)) (r, now (tree .exit)) ⌝ }
+    ensures { λ r. ⌜ Flat one (now (tokens .entry)) (call 10) (s, now (tree .entry)) (r, now (tree .exit)) ⌝ }
 {
     let t = take(tokens, s, kind::COLON);
     let u = scoped_names(&*tokens, tree, t);
@@ -46,7 +47,7 @@ fn interface_inheritance_spec(tokens: &[u32], tree: &mut [u32], s: Reading) -> R
 // The bases of an interface, if any.
 fn bases(tokens: &[u32], tree: &mut [u32], s: Reading) -> Reading
     requires { ⌜ Short (now tokens) ⌝ }
-    ensures { λ r. ⌜ Flat (now (tokens .entry)) optional-bases (s, now (tree .entry)) (r, now (tree .exit)) ⌝ }
+    ensures { λ r. ⌜ Flat one (now (tokens .entry)) optional-bases (s, now (tree .entry)) (r, now (tree .exit)) ⌝ }
 {
     let next = next_kind(tokens, s);
     match next {
@@ -92,7 +93,7 @@ pub fn starts_export(kind: u32) -> bool
 // What is exported, with its ";".
 fn exported(tokens: &[u32], tree: &mut [u32], s: Reading, depth: u32) -> Reading
     requires { ⌜ Short (now tokens) ⌝ }
-    ensures { λ r. ⌜ Reads (now (tokens .entry)) depth exported (s, now (tree .entry)) (r, now (tree .exit)) ⌝ }
+    ensures { λ r. ⌜ Reads one (now (tokens .entry)) depth exported (s, now (tree .entry)) (r, now (tree .exit)) ⌝ }
 {
     let next = next_kind(tokens, s);
     if starts_type_dcl(next) {
@@ -122,7 +123,7 @@ fn exported(tokens: &[u32], tree: &mut [u32], s: Reading, depth: u32) -> Reading
 // (9) export
 pub fn export(tokens: &[u32], tree: &mut [u32], s: Reading, depth: u32) -> Reading
     requires { ⌜ Short (now tokens) ⌝ }
-    ensures { λ r. ⌜ Reads (now (tokens .entry)) depth (call 9) (s, now (tree .entry)) (r, now (tree .exit)) ⌝ }
+    ensures { λ r. ⌜ Reads one (now (tokens .entry)) depth (call 9) (s, now (tree .entry)) (r, now (tree .exit)) ⌝ }
 {
     let t = exported(&*tokens, tree, s, depth);
     node(tree, s, t, 9)
@@ -131,7 +132,7 @@ pub fn export(tokens: &[u32], tree: &mut [u32], s: Reading, depth: u32) -> Readi
 // Exports, as many as there are.
 pub fn exports(tokens: &[u32], tree: &mut [u32], s: Reading, depth: u32) -> Reading
     requires { ⌜ Short (now tokens) ⌝ }
-    ensures { λ r. ⌜ Reads (now (tokens .entry)) depth (many (call 9)) (s, now (tree .entry)) (r, now (tree .exit)) ⌝ }
+    ensures { λ r. ⌜ Reads one (now (tokens .entry)) depth (many (call 9)) (s, now (tree .entry)) (r, now (tree .exit)) ⌝ }
 {
     let mut t = s;
     while starts_export(next_kind(tokens, t)) {
@@ -143,7 +144,7 @@ pub fn exports(tokens: &[u32], tree: &mut [u32], s: Reading, depth: u32) -> Read
 // (8) interface_body
 fn interface_body(tokens: &[u32], tree: &mut [u32], s: Reading, depth: u32) -> Reading
     requires { ⌜ Short (now tokens) ⌝ }
-    ensures { λ r. ⌜ Reads (now (tokens .entry)) depth (call 8) (s, now (tree .entry)) (r, now (tree .exit)) ⌝ }
+    ensures { λ r. ⌜ Reads one (now (tokens .entry)) depth (call 8) (s, now (tree .entry)) (r, now (tree .exit)) ⌝ }
 {
     let t = exports(&*tokens, tree, s, depth);
     node(tree, s, t, 8)
@@ -152,7 +153,7 @@ fn interface_body(tokens: &[u32], tree: &mut [u32], s: Reading, depth: u32) -> R
 // A body in braces, at one level of depth less.
 fn braced_body(tokens: &[u32], tree: &mut [u32], s: Reading, depth: u32) -> Reading
     requires { ⌜ Short (now tokens) ⌝ }
-    ensures { λ r. ⌜ Reads (now (tokens .entry)) depth braced-body (s, now (tree .entry)) (r, now (tree .exit)) ⌝ }
+    ensures { λ r. ⌜ Reads one (now (tokens .entry)) depth braced-body (s, now (tree .entry)) (r, now (tree .exit)) ⌝ }
 {
     let t = open(tokens, s, kind::OPEN_BRACE, depth);
     if has_stopped(t) {
@@ -171,7 +172,7 @@ fn interface_dcl(
     depth: u32,
 ) -> Reading
     requires { ⌜ Short (now tokens) ⌝ }
-    ensures { λ r. ⌜ From (now (tokens .entry)) depth start several interface-body (s, now (tree .entry)) (r, now (tree .exit)) ⌝ }
+    ensures { λ r. ⌜ From one (now (tokens .entry)) depth start several interface-body (s, now (tree .entry)) (r, now (tree .exit)) ⌝ }
 {
     let t = bases(&*tokens, tree, s);
     let u = node(tree, start, t, 7);
@@ -188,7 +189,7 @@ pub fn interface(
     depth: u32,
 ) -> Reading
     requires { ⌜ Short (now tokens) ⌝ }
-    ensures { λ r. ⌜ Within (now (tokens .entry)) depth start interface-rest (s, now (tree .entry)) (r, now (tree .exit)) ⌝ }
+    ensures { λ r. ⌜ Within one (now (tokens .entry)) depth start interface-rest (s, now (tree .entry)) (r, now (tree .exit)) ⌝ }
 {
     let tokens = &*tokens;
     let t = take(tokens, s, kind::INTERFACE);

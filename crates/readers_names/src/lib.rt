@@ -1,5 +1,6 @@
 // Readers of names, literals and basic types: the rules that hold no expression.
 ghost use Rattle.prediction.specs.Plan.{call, seq, many, token, wrap};
+ghost use Rattle.readers_core.specs.Course.{one};
 ghost use Rattle.readers_core.specs.Reading.{Short, Takes, Flat, FlatFrom, FlatWithin, FlatFollows, nothing, several};
 ghost use Rattle.readers_names.specs.Plans.{first-name, further-name, behind-long, behind-unsigned, long-number};
 ghost use Rattle.readers_names.specs.Plans.{short-number, number-type, string-literal};
@@ -28,7 +29,7 @@ fn first_name(tokens: &[u32], s: Reading) -> Reading
 // Each further step of a name is a node over what stands before it.
 fn further_names(tokens: &[u32], tree: &mut [u32], start: Reading, s: Reading) -> Reading
     requires { ⌜ Short (now tokens) ⌝ }
-    ensures { λ r. ⌜ FlatWithin (now (tokens .entry)) start (many further-name) (s, now (tree .entry)) (r, now (tree .exit)) ⌝ }
+    ensures { λ r. ⌜ FlatWithin one (now (tokens .entry)) start (many further-name) (s, now (tree .entry)) (r, now (tree .exit)) ⌝ }
 {
     let mut t = s;
     while next_kind(tokens, t) == kind::SCOPE {
@@ -42,7 +43,7 @@ fn further_names(tokens: &[u32], tree: &mut [u32], start: Reading, s: Reading) -
 // (12) scoped_name
 pub fn scoped_name(tokens: &[u32], tree: &mut [u32], s: Reading) -> Reading
     requires { ⌜ Short (now tokens) ⌝ }
-    ensures { λ r. ⌜ Flat (now (tokens .entry)) (call 12) (s, now (tree .entry)) (r, now (tree .exit)) ⌝ }
+    ensures { λ r. ⌜ Flat one (now (tokens .entry)) (call 12) (s, now (tree .entry)) (r, now (tree .exit)) ⌝ }
 {
     let t = first_name(&*tokens, s);
     let u = node(tree, s, t, 12);
@@ -52,7 +53,7 @@ pub fn scoped_name(tokens: &[u32], tree: &mut [u32], s: Reading) -> Reading
 // A rule that is one token, as (63) char_type.
 pub fn word(tokens: &[u32], tree: &mut [u32], s: Reading, word: u32, rule: u32) -> Reading
     requires { ⌜ Short (now tokens) × (0 < word) ⌝ }
-    ensures { λ r. ⌜ FlatFollows (now (tokens .entry)) rule (seq (token word) (wrap rule)) (s, now (tree .entry)) (r, now (tree .exit)) ⌝ }
+    ensures { λ r. ⌜ FlatFollows (now (tokens .entry)) rule (λ n. seq (token word) (wrap n)) (s, now (tree .entry)) (r, now (tree .exit)) ⌝ }
 {
     let t = take(tokens, s, word);
     node(tree, s, t, rule)
@@ -61,7 +62,7 @@ pub fn word(tokens: &[u32], tree: &mut [u32], s: Reading, word: u32, rule: u32) 
 // Behind "long": a second "long" or nothing.
 fn behind_long(tokens: &[u32], tree: &mut [u32], start: Reading, s: Reading) -> Reading
     requires { ⌜ Short (now tokens) ⌝ }
-    ensures { λ r. ⌜ FlatFrom (now (tokens .entry)) start several behind-long (s, now (tree .entry)) (r, now (tree .exit)) ⌝ }
+    ensures { λ r. ⌜ FlatFrom one (now (tokens .entry)) start several behind-long (s, now (tree .entry)) (r, now (tree .exit)) ⌝ }
 {
     let next = next_kind(tokens, s);
     match next {
@@ -76,7 +77,7 @@ fn behind_long(tokens: &[u32], tree: &mut [u32], start: Reading, s: Reading) -> 
 // (55) signed_int
 fn signed_int(tokens: &[u32], tree: &mut [u32], s: Reading) -> Reading
     requires { ⌜ Short (now tokens) ⌝ }
-    ensures { λ r. ⌜ Flat (now (tokens .entry)) (call 55) (s, now (tree .entry)) (r, now (tree .exit)) ⌝ }
+    ensures { λ r. ⌜ Flat one (now (tokens .entry)) (call 55) (s, now (tree .entry)) (r, now (tree .exit)) ⌝ }
 {
     let next = next_kind(tokens, s);
     match next {
@@ -94,7 +95,7 @@ fn signed_int(tokens: &[u32], tree: &mut [u32], s: Reading) -> Reading
 // Behind "unsigned": one of three types.
 fn behind_unsigned(tokens: &[u32], tree: &mut [u32], start: Reading, s: Reading) -> Reading
     requires { ⌜ Short (now tokens) ⌝ }
-    ensures { λ r. ⌜ FlatWithin (now (tokens .entry)) start behind-unsigned (s, now (tree .entry)) (r, now (tree .exit)) ⌝ }
+    ensures { λ r. ⌜ FlatWithin one (now (tokens .entry)) start behind-unsigned (s, now (tree .entry)) (r, now (tree .exit)) ⌝ }
 {
     let next = next_kind(tokens, s);
     if next == kind::SHORT {
@@ -113,7 +114,7 @@ fn behind_unsigned(tokens: &[u32], tree: &mut [u32], start: Reading, s: Reading)
 // (59) unsigned_int
 fn unsigned_int(tokens: &[u32], tree: &mut [u32], s: Reading) -> Reading
     requires { ⌜ Short (now tokens) ⌝ }
-    ensures { λ r. ⌜ Flat (now (tokens .entry)) (call 59) (s, now (tree .entry)) (r, now (tree .exit)) ⌝ }
+    ensures { λ r. ⌜ Flat one (now (tokens .entry)) (call 59) (s, now (tree .entry)) (r, now (tree .exit)) ⌝ }
 {
     let tokens = &*tokens;
     let t = take(tokens, s, kind::UNSIGNED);
@@ -123,7 +124,7 @@ fn unsigned_int(tokens: &[u32], tree: &mut [u32], s: Reading) -> Reading
 // (54) integer_type
 pub fn integer_type(tokens: &[u32], tree: &mut [u32], s: Reading) -> Reading
     requires { ⌜ Short (now tokens) ⌝ }
-    ensures { λ r. ⌜ Flat (now (tokens .entry)) (call 54) (s, now (tree .entry)) (r, now (tree .exit)) ⌝ }
+    ensures { λ r. ⌜ Flat one (now (tokens .entry)) (call 54) (s, now (tree .entry)) (r, now (tree .exit)) ⌝ }
 {
     let next = next_kind(tokens, s);
     match next {
@@ -135,7 +136,7 @@ pub fn integer_type(tokens: &[u32], tree: &mut [u32], s: Reading) -> Reading
 // Behind "long", where a floating type may stand too.
 fn long_number(tokens: &[u32], tree: &mut [u32], start: Reading, s: Reading) -> Reading
     requires { ⌜ Short (now tokens) ⌝ }
-    ensures { λ r. ⌜ FlatFrom (now (tokens .entry)) start several long-number (s, now (tree .entry)) (r, now (tree .exit)) ⌝ }
+    ensures { λ r. ⌜ FlatFrom one (now (tokens .entry)) start several long-number (s, now (tree .entry)) (r, now (tree .exit)) ⌝ }
 {
     let next = next_kind(tokens, s);
     match next {
@@ -150,7 +151,7 @@ fn long_number(tokens: &[u32], tree: &mut [u32], start: Reading, s: Reading) -> 
 // An integer or floating type, where a rule begins: `s` is its beginning.
 pub fn number_type(tokens: &[u32], tree: &mut [u32], s: Reading) -> Reading
     requires { ⌜ Short (now tokens) ⌝ }
-    ensures { λ r. ⌜ FlatFrom (now (tokens .entry)) s nothing number-type (s, now (tree .entry)) (r, now (tree .exit)) ⌝ }
+    ensures { λ r. ⌜ FlatFrom one (now (tokens .entry)) s nothing number-type (s, now (tree .entry)) (r, now (tree .exit)) ⌝ }
 {
     let tokens = &*tokens;
     let next = next_kind(tokens, s);
@@ -175,7 +176,7 @@ pub fn number_type(tokens: &[u32], tree: &mut [u32], s: Reading) -> Reading
 // "short", where a rule begins.
 fn short_number(tokens: &[u32], tree: &mut [u32], s: Reading) -> Reading
     requires { ⌜ Short (now tokens) ⌝ }
-    ensures { λ r. ⌜ FlatWithin (now (tokens .entry)) s short-number (s, now (tree .entry)) (r, now (tree .exit)) ⌝ }
+    ensures { λ r. ⌜ FlatWithin one (now (tokens .entry)) s short-number (s, now (tree .entry)) (r, now (tree .exit)) ⌝ }
 {
     let t = take(tokens, s, kind::SHORT);
     node(tree, s, t, 56)
@@ -184,7 +185,7 @@ fn short_number(tokens: &[u32], tree: &mut [u32], s: Reading) -> Reading
 // (46) base_type_spec
 pub fn base_type_spec(tokens: &[u32], tree: &mut [u32], s: Reading) -> Reading
     requires { ⌜ Short (now tokens) ⌝ }
-    ensures { λ r. ⌜ Flat (now (tokens .entry)) (call 46) (s, now (tree .entry)) (r, now (tree .exit)) ⌝ }
+    ensures { λ r. ⌜ Flat one (now (tokens .entry)) (call 46) (s, now (tree .entry)) (r, now (tree .exit)) ⌝ }
 {
     let tokens = &*tokens;
     let next = next_kind(tokens, s);
@@ -207,7 +208,7 @@ pub fn base_type_spec(tokens: &[u32], tree: &mut [u32], s: Reading) -> Reading
 // (40) boolean_literal
 fn boolean_literal(tokens: &[u32], tree: &mut [u32], s: Reading) -> Reading
     requires { ⌜ Short (now tokens) ⌝ }
-    ensures { λ r. ⌜ Flat (now (tokens .entry)) (call 40) (s, now (tree .entry)) (r, now (tree .exit)) ⌝ }
+    ensures { λ r. ⌜ Flat one (now (tokens .entry)) (call 40) (s, now (tree .entry)) (r, now (tree .exit)) ⌝ }
 {
     let next = next_kind(tokens, s);
     match next {
@@ -246,7 +247,7 @@ pub fn string_literal(tokens: &[u32], s: Reading, kind: u32) -> Reading
 // (39) literal
 pub fn literal(tokens: &[u32], tree: &mut [u32], s: Reading) -> Reading
     requires { ⌜ Short (now tokens) ⌝ }
-    ensures { λ r. ⌜ Flat (now (tokens .entry)) (call 39) (s, now (tree .entry)) (r, now (tree .exit)) ⌝ }
+    ensures { λ r. ⌜ Flat one (now (tokens .entry)) (call 39) (s, now (tree .entry)) (r, now (tree .exit)) ⌝ }
 {
     let next = next_kind(tokens, s);
     match next {

@@ -2,6 +2,7 @@
 ghost use mathlib.Core.Path.{_≡_};
 ghost use Rattle.grammar.specs.Sets.{elem};
 ghost use Rattle.prediction.specs.Plan.{alt, call, skip, token};
+ghost use Rattle.readers_core.specs.Course.{one};
 ghost use Rattle.readers_core.specs.Reading.{Short, Flat, Reads, Takes};
 ghost use Rattle.readers_operations.specs.Plans.{directions, Listed, further, list-of, parameters, exceptions};
 ghost use Rattle.readers_operations.specs.Plans.{further-strings, contexts};
@@ -20,7 +21,7 @@ use readers_types::param_type_spec;
 // (89) op_type_spec
 fn op_type_spec(tokens: &[u32], tree: &mut [u32], s: Reading, depth: u32) -> Reading
     requires { ⌜ Short (now tokens) ⌝ }
-    ensures { λ r. ⌜ Reads (now (tokens .entry)) depth (call 89) (s, now (tree .entry)) (r, now (tree .exit)) ⌝ }
+    ensures { λ r. ⌜ Reads one (now (tokens .entry)) depth (call 89) (s, now (tree .entry)) (r, now (tree .exit)) ⌝ }
 {
     let next = next_kind(tokens, s);
     if next == kind::VOID {
@@ -33,7 +34,7 @@ fn op_type_spec(tokens: &[u32], tree: &mut [u32], s: Reading, depth: u32) -> Rea
 // (92) param_attribute
 fn param_attribute(tokens: &[u32], tree: &mut [u32], s: Reading) -> Reading
     requires { ⌜ Short (now tokens) ⌝ }
-    ensures { λ r. ⌜ Flat (now (tokens .entry)) (call 92) (s, now (tree .entry)) (r, now (tree .exit)) ⌝ }
+    ensures { λ r. ⌜ Flat one (now (tokens .entry)) (call 92) (s, now (tree .entry)) (r, now (tree .exit)) ⌝ }
 {
     let next = next_kind(tokens, s);
     match next {
@@ -51,7 +52,7 @@ fn param_attribute(tokens: &[u32], tree: &mut [u32], s: Reading) -> Reading
 // (91) param_dcl
 fn param_dcl(tokens: &[u32], tree: &mut [u32], s: Reading, depth: u32) -> Reading
     requires { ⌜ Short (now tokens) ⌝ }
-    ensures { λ r. ⌜ Reads (now (tokens .entry)) depth (call 91) (s, now (tree .entry)) (r, now (tree .exit)) ⌝ }
+    ensures { λ r. ⌜ Reads one (now (tokens .entry)) depth (call 91) (s, now (tree .entry)) (r, now (tree .exit)) ⌝ }
 {
     let t = param_attribute(&*tokens, tree, s);
     let u = param_type_spec(&*tokens, tree, t, depth);
@@ -62,7 +63,7 @@ fn param_dcl(tokens: &[u32], tree: &mut [u32], s: Reading, depth: u32) -> Readin
 // What stands in a list: (12) scoped_name, (51) simple_declarator or (91) param_dcl.
 fn item(tokens: &[u32], tree: &mut [u32], s: Reading, depth: u32, rule: u32) -> Reading
     requires { ⌜ Short (now tokens) × Listed rule ⌝ }
-    ensures { λ r. ⌜ Reads (now (tokens .entry)) depth (call rule) (s, now (tree .entry)) (r, now (tree .exit)) ⌝ }
+    ensures { λ r. ⌜ Reads one (now (tokens .entry)) depth (call rule) (s, now (tree .entry)) (r, now (tree .exit)) ⌝ }
 {
     match rule {
         12 => scoped_name(&*tokens, tree, s),
@@ -74,7 +75,7 @@ fn item(tokens: &[u32], tree: &mut [u32], s: Reading, depth: u32, rule: u32) -> 
 // More of a list, each behind a comma.
 fn further(tokens: &[u32], tree: &mut [u32], s: Reading, depth: u32, rule: u32) -> Reading
     requires { ⌜ Short (now tokens) × Listed rule ⌝ }
-    ensures { λ r. ⌜ Reads (now (tokens .entry)) depth (further rule) (s, now (tree .entry)) (r, now (tree .exit)) ⌝ }
+    ensures { λ r. ⌜ Reads one (now (tokens .entry)) depth (further rule) (s, now (tree .entry)) (r, now (tree .exit)) ⌝ }
 {
     let mut t = s;
     while next_kind(tokens, t) == kind::COMMA {
@@ -87,7 +88,7 @@ fn further(tokens: &[u32], tree: &mut [u32], s: Reading, depth: u32, rule: u32) 
 // A list: one at least.
 fn list(tokens: &[u32], tree: &mut [u32], s: Reading, depth: u32, rule: u32) -> Reading
     requires { ⌜ Short (now tokens) × Listed rule ⌝ }
-    ensures { λ r. ⌜ Reads (now (tokens .entry)) depth (list-of rule) (s, now (tree .entry)) (r, now (tree .exit)) ⌝ }
+    ensures { λ r. ⌜ Reads one (now (tokens .entry)) depth (list-of rule) (s, now (tree .entry)) (r, now (tree .exit)) ⌝ }
 {
     let t = item(&*tokens, tree, s, depth, rule);
     further(&*tokens, tree, t, depth, rule)
@@ -106,7 +107,7 @@ fn is_direction(kind: u32) -> bool
 // Parameters or none, in parentheses.
 fn parameters(tokens: &[u32], tree: &mut [u32], s: Reading, depth: u32) -> Reading
     requires { ⌜ Short (now tokens) ⌝ }
-    ensures { λ r. ⌜ Reads (now (tokens .entry)) depth parameters (s, now (tree .entry)) (r, now (tree .exit)) ⌝ }
+    ensures { λ r. ⌜ Reads one (now (tokens .entry)) depth parameters (s, now (tree .entry)) (r, now (tree .exit)) ⌝ }
 {
     let t = open(tokens, s, kind::OPEN_PARENTHESIS, depth);
     if has_stopped(t) {
@@ -123,7 +124,7 @@ fn parameters(tokens: &[u32], tree: &mut [u32], s: Reading, depth: u32) -> Readi
 // (90) parameter_dcls
 fn parameter_dcls(tokens: &[u32], tree: &mut [u32], s: Reading, depth: u32) -> Reading
     requires { ⌜ Short (now tokens) ⌝ }
-    ensures { λ r. ⌜ Reads (now (tokens .entry)) depth (call 90) (s, now (tree .entry)) (r, now (tree .exit)) ⌝ }
+    ensures { λ r. ⌜ Reads one (now (tokens .entry)) depth (call 90) (s, now (tree .entry)) (r, now (tree .exit)) ⌝ }
 {
     let t = parameters(&*tokens, tree, s, depth);
     node(tree, s, t, 90)
@@ -132,7 +133,7 @@ fn parameter_dcls(tokens: &[u32], tree: &mut [u32], s: Reading, depth: u32) -> R
 // The names of exceptions, in parentheses.
 fn exceptions(tokens: &[u32], tree: &mut [u32], s: Reading, depth: u32) -> Reading
     requires { ⌜ Short (now tokens) ⌝ }
-    ensures { λ r. ⌜ Reads (now (tokens .entry)) depth exceptions (s, now (tree .entry)) (r, now (tree .exit)) ⌝ }
+    ensures { λ r. ⌜ Reads one (now (tokens .entry)) depth exceptions (s, now (tree .entry)) (r, now (tree .exit)) ⌝ }
 {
     let t = open(tokens, s, kind::OPEN_PARENTHESIS, depth);
     if has_stopped(t) {
@@ -145,7 +146,7 @@ fn exceptions(tokens: &[u32], tree: &mut [u32], s: Reading, depth: u32) -> Readi
 // (93) raises_expr, or nothing.
 fn raises(tokens: &[u32], tree: &mut [u32], s: Reading, depth: u32) -> Reading
     requires { ⌜ Short (now tokens) ⌝ }
-    ensures { λ r. ⌜ Reads (now (tokens .entry)) depth (alt (call 93) skip) (s, now (tree .entry)) (r, now (tree .exit)) ⌝ }
+    ensures { λ r. ⌜ Reads one (now (tokens .entry)) depth (alt (call 93) skip) (s, now (tree .entry)) (r, now (tree .exit)) ⌝ }
 {
     let next = next_kind(tokens, s);
     if next == kind::RAISES {
@@ -172,7 +173,7 @@ fn further_strings(tokens: &[u32], s: Reading) -> Reading
 // The string literals of a context, in parentheses.
 fn contexts(tokens: &[u32], tree: &mut [u32], s: Reading, depth: u32) -> Reading
     requires { ⌜ Short (now tokens) ⌝ }
-    ensures { λ r. ⌜ Reads (now (tokens .entry)) depth contexts (s, now (tree .entry)) (r, now (tree .exit)) ⌝ }
+    ensures { λ r. ⌜ Reads one (now (tokens .entry)) depth contexts (s, now (tree .entry)) (r, now (tree .exit)) ⌝ }
 {
     let t = open(tokens, s, kind::OPEN_PARENTHESIS, depth);
     if has_stopped(t) {
@@ -186,7 +187,7 @@ fn contexts(tokens: &[u32], tree: &mut [u32], s: Reading, depth: u32) -> Reading
 // (94) context_expr, or nothing.
 fn context(tokens: &[u32], tree: &mut [u32], s: Reading, depth: u32) -> Reading
     requires { ⌜ Short (now tokens) ⌝ }
-    ensures { λ r. ⌜ Reads (now (tokens .entry)) depth (alt (call 94) skip) (s, now (tree .entry)) (r, now (tree .exit)) ⌝ }
+    ensures { λ r. ⌜ Reads one (now (tokens .entry)) depth (alt (call 94) skip) (s, now (tree .entry)) (r, now (tree .exit)) ⌝ }
 {
     let next = next_kind(tokens, s);
     if next == kind::CONTEXT {
@@ -200,7 +201,7 @@ fn context(tokens: &[u32], tree: &mut [u32], s: Reading, depth: u32) -> Reading
 // (88) op_attribute, or nothing.
 fn oneway(tokens: &[u32], tree: &mut [u32], s: Reading) -> Reading
     requires { ⌜ Short (now tokens) ⌝ }
-    ensures { λ r. ⌜ Flat (now (tokens .entry)) (alt (call 88) skip) (s, now (tree .entry)) (r, now (tree .exit)) ⌝ }
+    ensures { λ r. ⌜ Flat one (now (tokens .entry)) (alt (call 88) skip) (s, now (tree .entry)) (r, now (tree .exit)) ⌝ }
 {
     let next = next_kind(tokens, s);
     if next == kind::ONEWAY {
@@ -212,7 +213,7 @@ fn oneway(tokens: &[u32], tree: &mut [u32], s: Reading) -> Reading
 // (87) op_dcl
 pub fn op_dcl(tokens: &[u32], tree: &mut [u32], s: Reading, depth: u32) -> Reading
     requires { ⌜ Short (now tokens) ⌝ }
-    ensures { λ r. ⌜ Reads (now (tokens .entry)) depth (call 87) (s, now (tree .entry)) (r, now (tree .exit)) ⌝ }
+    ensures { λ r. ⌜ Reads one (now (tokens .entry)) depth (call 87) (s, now (tree .entry)) (r, now (tree .exit)) ⌝ }
 {
     let t = oneway(&*tokens, tree, s);
     let u = op_type_spec(&*tokens, tree, t, depth);
@@ -238,7 +239,7 @@ fn readonly(tokens: &[u32], s: Reading) -> Reading
 // (85) attr_dcl
 pub fn attr_dcl(tokens: &[u32], tree: &mut [u32], s: Reading, depth: u32) -> Reading
     requires { ⌜ Short (now tokens) ⌝ }
-    ensures { λ r. ⌜ Reads (now (tokens .entry)) depth (call 85) (s, now (tree .entry)) (r, now (tree .exit)) ⌝ }
+    ensures { λ r. ⌜ Reads one (now (tokens .entry)) depth (call 85) (s, now (tree .entry)) (r, now (tree .exit)) ⌝ }
 {
     let t = readonly(&*tokens, s);
     let u = take(tokens, t, kind::ATTRIBUTE);

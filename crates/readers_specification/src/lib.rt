@@ -3,6 +3,7 @@
 ghost use mathlib.Core.Path.{_≡_};
 ghost use Rattle.grammar.specs.Sets.{elem};
 ghost use Rattle.prediction.specs.Plan.{call};
+ghost use Rattle.readers_core.specs.Course.{one};
 ghost use Rattle.readers_core.specs.Reading.{ahead, Short, Reads, Within};
 ghost use Rattle.readers_specification.specs.Plans.{abstract-definition, defined, definitions, definition-starts};
 use readers_core::Reading;
@@ -30,7 +31,7 @@ fn abstract_definition(
     depth: u32,
 ) -> Reading
     requires { ⌜ Short (now tokens) ⌝ }
-    ensures { λ r. ⌜ Within (now (tokens .entry)) depth start abstract-definition (s, now (tree .entry)) (r, now (tree .exit)) ⌝ }
+    ensures { λ r. ⌜ Within one (now (tokens .entry)) depth start abstract-definition (s, now (tree .entry)) (r, now (tree .exit)) ⌝ }
 {
     let t = take(tokens, s, kind::ABSTRACT);
     let next = next_kind(tokens, t);
@@ -50,7 +51,7 @@ fn other_definition(
 ) -> Reading
     requires { ⌜ Short (now tokens) ⌝ }
     requires { ⌜ (ahead (now tokens) s ≡ 41 → ⊥) ⌝ }
-    ensures { λ r. ⌜ Within (now (tokens .entry)) depth start defined (s, now (tree .entry)) (r, now (tree .exit)) ⌝ }
+    ensures { λ r. ⌜ Within one (now (tokens .entry)) depth start defined (s, now (tree .entry)) (r, now (tree .exit)) ⌝ }
 {
     let next = next_kind(tokens, s);
     match next {
@@ -85,7 +86,7 @@ fn starts_definition(kind: u32) -> bool
 // What is defined, before its ";".
 fn defined(tokens: &[u32], tree: &mut [u32], start: Reading, s: Reading, depth: u32) -> Reading
     requires { ⌜ Short (now tokens) ⌝ }
-    ensures { λ r. ⌜ Within (now (tokens .entry)) depth start defined (s, now (tree .entry)) (r, now (tree .exit)) ⌝ }
+    ensures { λ r. ⌜ Within one (now (tokens .entry)) depth start defined (s, now (tree .entry)) (r, now (tree .exit)) ⌝ }
 {
     let next = next_kind(tokens, s);
     match next {
@@ -97,7 +98,7 @@ fn defined(tokens: &[u32], tree: &mut [u32], start: Reading, s: Reading, depth: 
 // (2) definition
 fn definition(tokens: &[u32], tree: &mut [u32], s: Reading, depth: u32) -> Reading
     requires { ⌜ Short (now tokens) ⌝ }
-    ensures { λ r. ⌜ Reads (now (tokens .entry)) depth (call 2) (s, now (tree .entry)) (r, now (tree .exit)) ⌝ }
+    ensures { λ r. ⌜ Reads one (now (tokens .entry)) depth (call 2) (s, now (tree .entry)) (r, now (tree .exit)) ⌝ }
 {
     let t = defined(&*tokens, tree, s, s, depth);
     let u = take(tokens, t, kind::SEMICOLON);
@@ -107,7 +108,7 @@ fn definition(tokens: &[u32], tree: &mut [u32], s: Reading, depth: u32) -> Readi
 // One or more definitions.
 fn definitions(tokens: &[u32], tree: &mut [u32], s: Reading, depth: u32) -> Reading
     requires { ⌜ Short (now tokens) ⌝ }
-    ensures { λ r. ⌜ Reads (now (tokens .entry)) depth definitions (s, now (tree .entry)) (r, now (tree .exit)) ⌝ }
+    ensures { λ r. ⌜ Reads one (now (tokens .entry)) depth definitions (s, now (tree .entry)) (r, now (tree .exit)) ⌝ }
 {
     let mut t = s;
     loop {
@@ -122,7 +123,7 @@ fn definitions(tokens: &[u32], tree: &mut [u32], s: Reading, depth: u32) -> Read
 // (3) module: its definitions are read at one level of depth less.
 fn module_definition(tokens: &[u32], tree: &mut [u32], s: Reading, depth: u32) -> Reading
     requires { ⌜ Short (now tokens) ⌝ }
-    ensures { λ r. ⌜ Reads (now (tokens .entry)) depth (call 3) (s, now (tree .entry)) (r, now (tree .exit)) ⌝ }
+    ensures { λ r. ⌜ Reads one (now (tokens .entry)) depth (call 3) (s, now (tree .entry)) (r, now (tree .exit)) ⌝ }
 {
     let t = take(tokens, s, kind::MODULE);
     let u = take(tokens, t, kind::IDENTIFIER);
@@ -138,7 +139,7 @@ fn module_definition(tokens: &[u32], tree: &mut [u32], s: Reading, depth: u32) -
 // (1) specification
 pub fn specification(tokens: &[u32], tree: &mut [u32], s: Reading, depth: u32) -> Reading
     requires { ⌜ Short (now tokens) ⌝ }
-    ensures { λ r. ⌜ Reads (now (tokens .entry)) depth (call 1) (s, now (tree .entry)) (r, now (tree .exit)) ⌝ }
+    ensures { λ r. ⌜ Reads one (now (tokens .entry)) depth (call 1) (s, now (tree .entry)) (r, now (tree .exit)) ⌝ }
 {
     let t = definitions(&*tokens, tree, s, depth);
     node(tree, s, t, 1)

@@ -3,6 +3,7 @@
 ghost use mathlib.Core.Path.{_≡_};
 ghost use Rattle.prediction.specs.Plan.{call, many, seq, token};
 ghost use Rattle.grammar.specs.Sets.{elem};
+ghost use Rattle.readers_core.specs.Course.{one};
 ghost use Rattle.readers_core.specs.Reading.{Short, Reads, Within};
 ghost use Rattle.readers_structs.specs.Plans.{type-starts, case-starts, struct-body, switch-block, exception-body};
 ghost use Rattle.readers_structs.specs.Plans.{switch-head, union-rest, struct-dcl, union-dcl};
@@ -64,7 +65,7 @@ fn starts_case(next: u32) -> bool
 // (44) type_spec
 pub fn type_spec(tokens: &[u32], tree: &mut [u32], s: Reading, depth: u32) -> Reading
     requires { ⌜ Short (now tokens) ⌝ }
-    ensures { λ r. ⌜ Reads (now (tokens .entry)) depth (call 44) (s, now (tree .entry)) (r, now (tree .exit)) ⌝ }
+    ensures { λ r. ⌜ Reads one (now (tokens .entry)) depth (call 44) (s, now (tree .entry)) (r, now (tree .exit)) ⌝ }
 {
     let next = next_kind(tokens, s);
     match next {
@@ -76,7 +77,7 @@ pub fn type_spec(tokens: &[u32], tree: &mut [u32], s: Reading, depth: u32) -> Re
 // (48) constr_type_spec
 fn constr_type_spec(tokens: &[u32], tree: &mut [u32], s: Reading, depth: u32) -> Reading
     requires { ⌜ Short (now tokens) ⌝ }
-    ensures { λ r. ⌜ Reads (now (tokens .entry)) depth (call 48) (s, now (tree .entry)) (r, now (tree .exit)) ⌝ }
+    ensures { λ r. ⌜ Reads one (now (tokens .entry)) depth (call 48) (s, now (tree .entry)) (r, now (tree .exit)) ⌝ }
 {
     let next = next_kind(tokens, s);
     match next {
@@ -89,7 +90,7 @@ fn constr_type_spec(tokens: &[u32], tree: &mut [u32], s: Reading, depth: u32) ->
 // (69) struct_type
 fn struct_type(tokens: &[u32], tree: &mut [u32], s: Reading, depth: u32) -> Reading
     requires { ⌜ Short (now tokens) ⌝ }
-    ensures { λ r. ⌜ Reads (now (tokens .entry)) depth (call 69) (s, now (tree .entry)) (r, now (tree .exit)) ⌝ }
+    ensures { λ r. ⌜ Reads one (now (tokens .entry)) depth (call 69) (s, now (tree .entry)) (r, now (tree .exit)) ⌝ }
 {
     let t = take(tokens, s, kind::STRUCT);
     let u = take(tokens, t, kind::IDENTIFIER);
@@ -100,7 +101,7 @@ fn struct_type(tokens: &[u32], tree: &mut [u32], s: Reading, depth: u32) -> Read
 // The members of a struct between their braces.
 fn struct_body(tokens: &[u32], tree: &mut [u32], s: Reading, depth: u32) -> Reading
     requires { ⌜ Short (now tokens) ⌝ }
-    ensures { λ r. ⌜ Reads (now (tokens .entry)) depth struct-body (s, now (tree .entry)) (r, now (tree .exit)) ⌝ }
+    ensures { λ r. ⌜ Reads one (now (tokens .entry)) depth struct-body (s, now (tree .entry)) (r, now (tree .exit)) ⌝ }
 {
     let t = open(tokens, s, kind::OPEN_BRACE, depth);
     if has_stopped(t) {
@@ -113,7 +114,7 @@ fn struct_body(tokens: &[u32], tree: &mut [u32], s: Reading, depth: u32) -> Read
 // (70) member_list: one member alone leaves no record.
 fn member_list(tokens: &[u32], tree: &mut [u32], s: Reading, depth: u32) -> Reading
     requires { ⌜ Short (now tokens) ⌝ }
-    ensures { λ r. ⌜ Reads (now (tokens .entry)) depth (call 70) (s, now (tree .entry)) (r, now (tree .exit)) ⌝ }
+    ensures { λ r. ⌜ Reads one (now (tokens .entry)) depth (call 70) (s, now (tree .entry)) (r, now (tree .exit)) ⌝ }
 {
     let t = member(&*tokens, tree, s, depth);
     if starts_type(next_kind(tokens, t)) {
@@ -126,7 +127,7 @@ fn member_list(tokens: &[u32], tree: &mut [u32], s: Reading, depth: u32) -> Read
 // Members, as many as there are.
 fn further_members(tokens: &[u32], tree: &mut [u32], s: Reading, depth: u32) -> Reading
     requires { ⌜ Short (now tokens) ⌝ }
-    ensures { λ r. ⌜ Reads (now (tokens .entry)) depth (many (call 71)) (s, now (tree .entry)) (r, now (tree .exit)) ⌝ }
+    ensures { λ r. ⌜ Reads one (now (tokens .entry)) depth (many (call 71)) (s, now (tree .entry)) (r, now (tree .exit)) ⌝ }
 {
     let mut t = s;
     while starts_type(next_kind(tokens, t)) {
@@ -138,7 +139,7 @@ fn further_members(tokens: &[u32], tree: &mut [u32], s: Reading, depth: u32) -> 
 // (71) member
 fn member(tokens: &[u32], tree: &mut [u32], s: Reading, depth: u32) -> Reading
     requires { ⌜ Short (now tokens) ⌝ }
-    ensures { λ r. ⌜ Reads (now (tokens .entry)) depth (call 71) (s, now (tree .entry)) (r, now (tree .exit)) ⌝ }
+    ensures { λ r. ⌜ Reads one (now (tokens .entry)) depth (call 71) (s, now (tree .entry)) (r, now (tree .exit)) ⌝ }
 {
     let t = type_spec(&*tokens, tree, s, depth);
     let u = declarators(&*tokens, tree, t, depth);
@@ -149,7 +150,7 @@ fn member(tokens: &[u32], tree: &mut [u32], s: Reading, depth: u32) -> Reading
 // (72) union_type
 fn union_type(tokens: &[u32], tree: &mut [u32], s: Reading, depth: u32) -> Reading
     requires { ⌜ Short (now tokens) ⌝ }
-    ensures { λ r. ⌜ Reads (now (tokens .entry)) depth (call 72) (s, now (tree .entry)) (r, now (tree .exit)) ⌝ }
+    ensures { λ r. ⌜ Reads one (now (tokens .entry)) depth (call 72) (s, now (tree .entry)) (r, now (tree .exit)) ⌝ }
 {
     let t = take(tokens, s, kind::UNION);
     let u = take(tokens, t, kind::IDENTIFIER);
@@ -159,7 +160,7 @@ fn union_type(tokens: &[u32], tree: &mut [u32], s: Reading, depth: u32) -> Readi
 // What stands behind the name of a union that began where `start` stands.
 fn union_rest(tokens: &[u32], tree: &mut [u32], start: Reading, s: Reading, depth: u32) -> Reading
     requires { ⌜ Short (now tokens) ⌝ }
-    ensures { λ r. ⌜ Within (now (tokens .entry)) depth start union-rest (s, now (tree .entry)) (r, now (tree .exit)) ⌝ }
+    ensures { λ r. ⌜ Within one (now (tokens .entry)) depth start union-rest (s, now (tree .entry)) (r, now (tree .exit)) ⌝ }
 {
     let t = take(tokens, s, kind::SWITCH);
     let u = switch_head(&*tokens, tree, t, depth);
@@ -170,7 +171,7 @@ fn union_rest(tokens: &[u32], tree: &mut [u32], start: Reading, s: Reading, dept
 // The type of a switch between its parentheses.
 fn switch_head(tokens: &[u32], tree: &mut [u32], s: Reading, depth: u32) -> Reading
     requires { ⌜ Short (now tokens) ⌝ }
-    ensures { λ r. ⌜ Reads (now (tokens .entry)) depth switch-head (s, now (tree .entry)) (r, now (tree .exit)) ⌝ }
+    ensures { λ r. ⌜ Reads one (now (tokens .entry)) depth switch-head (s, now (tree .entry)) (r, now (tree .exit)) ⌝ }
 {
     let t = open(tokens, s, kind::OPEN_PARENTHESIS, depth);
     if has_stopped(t) {
@@ -183,7 +184,7 @@ fn switch_head(tokens: &[u32], tree: &mut [u32], s: Reading, depth: u32) -> Read
 // The cases of a union between their braces.
 fn switch_block(tokens: &[u32], tree: &mut [u32], s: Reading, depth: u32) -> Reading
     requires { ⌜ Short (now tokens) ⌝ }
-    ensures { λ r. ⌜ Reads (now (tokens .entry)) depth switch-block (s, now (tree .entry)) (r, now (tree .exit)) ⌝ }
+    ensures { λ r. ⌜ Reads one (now (tokens .entry)) depth switch-block (s, now (tree .entry)) (r, now (tree .exit)) ⌝ }
 {
     let t = open(tokens, s, kind::OPEN_BRACE, depth);
     if has_stopped(t) {
@@ -196,7 +197,7 @@ fn switch_block(tokens: &[u32], tree: &mut [u32], s: Reading, depth: u32) -> Rea
 // (74) switch_body: one case alone leaves no record.
 fn switch_body(tokens: &[u32], tree: &mut [u32], s: Reading, depth: u32) -> Reading
     requires { ⌜ Short (now tokens) ⌝ }
-    ensures { λ r. ⌜ Reads (now (tokens .entry)) depth (call 74) (s, now (tree .entry)) (r, now (tree .exit)) ⌝ }
+    ensures { λ r. ⌜ Reads one (now (tokens .entry)) depth (call 74) (s, now (tree .entry)) (r, now (tree .exit)) ⌝ }
 {
     let t = case_clause(&*tokens, tree, s, depth);
     if starts_case(next_kind(tokens, t)) {
@@ -209,7 +210,7 @@ fn switch_body(tokens: &[u32], tree: &mut [u32], s: Reading, depth: u32) -> Read
 // Further cases, as many as there are.
 fn further_cases(tokens: &[u32], tree: &mut [u32], s: Reading, depth: u32) -> Reading
     requires { ⌜ Short (now tokens) ⌝ }
-    ensures { λ r. ⌜ Reads (now (tokens .entry)) depth (many (call 75)) (s, now (tree .entry)) (r, now (tree .exit)) ⌝ }
+    ensures { λ r. ⌜ Reads one (now (tokens .entry)) depth (many (call 75)) (s, now (tree .entry)) (r, now (tree .exit)) ⌝ }
 {
     let mut t = s;
     while starts_case(next_kind(tokens, t)) {
@@ -221,7 +222,7 @@ fn further_cases(tokens: &[u32], tree: &mut [u32], s: Reading, depth: u32) -> Re
 // (75) case
 fn case_clause(tokens: &[u32], tree: &mut [u32], s: Reading, depth: u32) -> Reading
     requires { ⌜ Short (now tokens) ⌝ }
-    ensures { λ r. ⌜ Reads (now (tokens .entry)) depth (call 75) (s, now (tree .entry)) (r, now (tree .exit)) ⌝ }
+    ensures { λ r. ⌜ Reads one (now (tokens .entry)) depth (call 75) (s, now (tree .entry)) (r, now (tree .exit)) ⌝ }
 {
     let t = case_label(&*tokens, tree, s, depth);
     let u = further_labels(&*tokens, tree, t, depth);
@@ -233,7 +234,7 @@ fn case_clause(tokens: &[u32], tree: &mut [u32], s: Reading, depth: u32) -> Read
 // Further labels of a case, as many as there are.
 fn further_labels(tokens: &[u32], tree: &mut [u32], s: Reading, depth: u32) -> Reading
     requires { ⌜ Short (now tokens) ⌝ }
-    ensures { λ r. ⌜ Reads (now (tokens .entry)) depth (many (call 76)) (s, now (tree .entry)) (r, now (tree .exit)) ⌝ }
+    ensures { λ r. ⌜ Reads one (now (tokens .entry)) depth (many (call 76)) (s, now (tree .entry)) (r, now (tree .exit)) ⌝ }
 {
     let mut t = s;
     while starts_case(next_kind(tokens, t)) {
@@ -245,7 +246,7 @@ fn further_labels(tokens: &[u32], tree: &mut [u32], s: Reading, depth: u32) -> R
 // (77) element_spec
 fn element_spec(tokens: &[u32], tree: &mut [u32], s: Reading, depth: u32) -> Reading
     requires { ⌜ Short (now tokens) ⌝ }
-    ensures { λ r. ⌜ Reads (now (tokens .entry)) depth (call 77) (s, now (tree .entry)) (r, now (tree .exit)) ⌝ }
+    ensures { λ r. ⌜ Reads one (now (tokens .entry)) depth (call 77) (s, now (tree .entry)) (r, now (tree .exit)) ⌝ }
 {
     let t = type_spec(&*tokens, tree, s, depth);
     let u = declarator(&*tokens, tree, t, depth);
@@ -255,7 +256,7 @@ fn element_spec(tokens: &[u32], tree: &mut [u32], s: Reading, depth: u32) -> Rea
 // (43) type_declarator
 fn type_declarator(tokens: &[u32], tree: &mut [u32], s: Reading, depth: u32) -> Reading
     requires { ⌜ Short (now tokens) ⌝ }
-    ensures { λ r. ⌜ Reads (now (tokens .entry)) depth (call 43) (s, now (tree .entry)) (r, now (tree .exit)) ⌝ }
+    ensures { λ r. ⌜ Reads one (now (tokens .entry)) depth (call 43) (s, now (tree .entry)) (r, now (tree .exit)) ⌝ }
 {
     let t = type_spec(&*tokens, tree, s, depth);
     let u = declarators(&*tokens, tree, t, depth);
@@ -265,7 +266,7 @@ fn type_declarator(tokens: &[u32], tree: &mut [u32], s: Reading, depth: u32) -> 
 // A struct declared, or only named, where a rule begins.
 fn struct_dcl(tokens: &[u32], tree: &mut [u32], s: Reading, depth: u32) -> Reading
     requires { ⌜ Short (now tokens) ⌝ }
-    ensures { λ r. ⌜ Within (now (tokens .entry)) depth s struct-dcl (s, now (tree .entry)) (r, now (tree .exit)) ⌝ }
+    ensures { λ r. ⌜ Within one (now (tokens .entry)) depth s struct-dcl (s, now (tree .entry)) (r, now (tree .exit)) ⌝ }
 {
     let t = take(tokens, s, kind::STRUCT);
     let u = take(tokens, t, kind::IDENTIFIER);
@@ -280,7 +281,7 @@ fn struct_dcl(tokens: &[u32], tree: &mut [u32], s: Reading, depth: u32) -> Readi
 // A union declared, or only named, where a rule begins.
 fn union_dcl(tokens: &[u32], tree: &mut [u32], s: Reading, depth: u32) -> Reading
     requires { ⌜ Short (now tokens) ⌝ }
-    ensures { λ r. ⌜ Within (now (tokens .entry)) depth s union-dcl (s, now (tree .entry)) (r, now (tree .exit)) ⌝ }
+    ensures { λ r. ⌜ Within one (now (tokens .entry)) depth s union-dcl (s, now (tree .entry)) (r, now (tree .exit)) ⌝ }
 {
     let t = take(tokens, s, kind::UNION);
     let u = take(tokens, t, kind::IDENTIFIER);
@@ -294,7 +295,7 @@ fn union_dcl(tokens: &[u32], tree: &mut [u32], s: Reading, depth: u32) -> Readin
 // (42) type_dcl
 pub fn type_dcl(tokens: &[u32], tree: &mut [u32], s: Reading, depth: u32) -> Reading
     requires { ⌜ Short (now tokens) ⌝ }
-    ensures { λ r. ⌜ Reads (now (tokens .entry)) depth (call 42) (s, now (tree .entry)) (r, now (tree .exit)) ⌝ }
+    ensures { λ r. ⌜ Reads one (now (tokens .entry)) depth (call 42) (s, now (tree .entry)) (r, now (tree .exit)) ⌝ }
 {
     let tokens = &*tokens;
     let next = next_kind(tokens, s);
@@ -318,7 +319,7 @@ pub fn type_dcl(tokens: &[u32], tree: &mut [u32], s: Reading, depth: u32) -> Rea
 // The members of an exception between their braces.
 fn exception_body(tokens: &[u32], tree: &mut [u32], s: Reading, depth: u32) -> Reading
     requires { ⌜ Short (now tokens) ⌝ }
-    ensures { λ r. ⌜ Reads (now (tokens .entry)) depth exception-body (s, now (tree .entry)) (r, now (tree .exit)) ⌝ }
+    ensures { λ r. ⌜ Reads one (now (tokens .entry)) depth exception-body (s, now (tree .entry)) (r, now (tree .exit)) ⌝ }
 {
     let t = open(tokens, s, kind::OPEN_BRACE, depth);
     if has_stopped(t) {
@@ -331,7 +332,7 @@ fn exception_body(tokens: &[u32], tree: &mut [u32], s: Reading, depth: u32) -> R
 // (86) except_dcl
 pub fn except_dcl(tokens: &[u32], tree: &mut [u32], s: Reading, depth: u32) -> Reading
     requires { ⌜ Short (now tokens) ⌝ }
-    ensures { λ r. ⌜ Reads (now (tokens .entry)) depth (call 86) (s, now (tree .entry)) (r, now (tree .exit)) ⌝ }
+    ensures { λ r. ⌜ Reads one (now (tokens .entry)) depth (call 86) (s, now (tree .entry)) (r, now (tree .exit)) ⌝ }
 {
     let tokens = &*tokens;
     let t = take(tokens, s, kind::EXCEPTION);
@@ -343,7 +344,7 @@ pub fn except_dcl(tokens: &[u32], tree: &mut [u32], s: Reading, depth: u32) -> R
 // (27) const_dcl
 pub fn const_dcl(tokens: &[u32], tree: &mut [u32], s: Reading, depth: u32) -> Reading
     requires { ⌜ Short (now tokens) ⌝ }
-    ensures { λ r. ⌜ Reads (now (tokens .entry)) depth (call 27) (s, now (tree .entry)) (r, now (tree .exit)) ⌝ }
+    ensures { λ r. ⌜ Reads one (now (tokens .entry)) depth (call 27) (s, now (tree .entry)) (r, now (tree .exit)) ⌝ }
 {
     let tokens = &*tokens;
     let t = take(tokens, s, kind::CONST);

@@ -4,6 +4,7 @@ ghost use Prim.Native.Nat.{_<_};
 ghost use mathlib.Core.Path.{_≡_};
 ghost use Rattle.prediction.specs.Plan.{call, group, many, seq, token, wrap};
 ghost use Rattle.grammar.specs.Sets.{elem};
+ghost use Rattle.readers_core.specs.Course.{one};
 ghost use Rattle.readers_core.specs.Reading.{Short, Flat, Follows, From, Reads, several};
 ghost use Rattle.readers_types.specs.Plans.{string-plan, fixed-bounds, behind-name, further, enumerators};
 ghost use Rattle.readers_types.specs.Plans.{sequence-body, sequence-bound};
@@ -32,7 +33,7 @@ fn enclosed(
     closing: u32,
 ) -> Reading
     requires { ⌜ Short (now tokens) × (0 < opening) × (0 < closing) ⌝ }
-    ensures { λ r. ⌜ Reads (now (tokens .entry)) depth (group opening (call 41) closing) (s, now (tree .entry)) (r, now (tree .exit)) ⌝ }
+    ensures { λ r. ⌜ Reads one (now (tokens .entry)) depth (group opening (call 41) closing) (s, now (tree .entry)) (r, now (tree .exit)) ⌝ }
 {
     let t = open(tokens, s, opening, depth);
     if has_stopped(t) {
@@ -52,7 +53,7 @@ pub fn string_type(
     rule: u32,
 ) -> Reading
     requires { ⌜ Short (now tokens) × (0 < word) ⌝ }
-    ensures { λ r. ⌜ Follows (now (tokens .entry)) depth rule (string-plan word rule) (s, now (tree .entry)) (r, now (tree .exit)) ⌝ }
+    ensures { λ r. ⌜ Follows one (now (tokens .entry)) depth rule (string-plan word rule) (s, now (tree .entry)) (r, now (tree .exit)) ⌝ }
 {
     let tokens = &*tokens;
     let t = take(tokens, s, word);
@@ -74,7 +75,7 @@ pub fn string_type(
 // The two bounds of a fixed-point type.
 fn fixed_bounds(tokens: &[u32], tree: &mut [u32], s: Reading, depth: u32) -> Reading
     requires { ⌜ Short (now tokens) ⌝ }
-    ensures { λ r. ⌜ Reads (now (tokens .entry)) depth fixed-bounds (s, now (tree .entry)) (r, now (tree .exit)) ⌝ }
+    ensures { λ r. ⌜ Reads one (now (tokens .entry)) depth fixed-bounds (s, now (tree .entry)) (r, now (tree .exit)) ⌝ }
 {
     let t = open(tokens, s, kind::OPEN_ANGLE, depth);
     if has_stopped(t) {
@@ -89,7 +90,7 @@ fn fixed_bounds(tokens: &[u32], tree: &mut [u32], s: Reading, depth: u32) -> Rea
 // (96) fixed_pt_type
 fn fixed_pt_type(tokens: &[u32], tree: &mut [u32], s: Reading, depth: u32) -> Reading
     requires { ⌜ Short (now tokens) ⌝ }
-    ensures { λ r. ⌜ Reads (now (tokens .entry)) depth (call 96) (s, now (tree .entry)) (r, now (tree .exit)) ⌝ }
+    ensures { λ r. ⌜ Reads one (now (tokens .entry)) depth (call 96) (s, now (tree .entry)) (r, now (tree .exit)) ⌝ }
 {
     let t = take(tokens, s, kind::FIXED);
     let u = fixed_bounds(&*tokens, tree, t, depth);
@@ -99,7 +100,7 @@ fn fixed_pt_type(tokens: &[u32], tree: &mut [u32], s: Reading, depth: u32) -> Re
 // (84) fixed_array_size
 fn fixed_array_size(tokens: &[u32], tree: &mut [u32], s: Reading, depth: u32) -> Reading
     requires { ⌜ Short (now tokens) ⌝ }
-    ensures { λ r. ⌜ Reads (now (tokens .entry)) depth (call 84) (s, now (tree .entry)) (r, now (tree .exit)) ⌝ }
+    ensures { λ r. ⌜ Reads one (now (tokens .entry)) depth (call 84) (s, now (tree .entry)) (r, now (tree .exit)) ⌝ }
 {
     let t = enclosed(
         &*tokens,
@@ -115,7 +116,7 @@ fn fixed_array_size(tokens: &[u32], tree: &mut [u32], s: Reading, depth: u32) ->
 // Further sizes of an array.
 fn further_sizes(tokens: &[u32], tree: &mut [u32], s: Reading, depth: u32) -> Reading
     requires { ⌜ Short (now tokens) ⌝ }
-    ensures { λ r. ⌜ Reads (now (tokens .entry)) depth (many (call 84)) (s, now (tree .entry)) (r, now (tree .exit)) ⌝ }
+    ensures { λ r. ⌜ Reads one (now (tokens .entry)) depth (many (call 84)) (s, now (tree .entry)) (r, now (tree .exit)) ⌝ }
 {
     let mut t = s;
     while next_kind(tokens, t) == kind::OPEN_BRACKET {
@@ -127,7 +128,7 @@ fn further_sizes(tokens: &[u32], tree: &mut [u32], s: Reading, depth: u32) -> Re
 // Behind the name of a declarator: array sizes or nothing.
 fn behind_name(tokens: &[u32], tree: &mut [u32], start: Reading, s: Reading, depth: u32) -> Reading
     requires { ⌜ Short (now tokens) ⌝ }
-    ensures { λ r. ⌜ From (now (tokens .entry)) depth start several behind-name (s, now (tree .entry)) (r, now (tree .exit)) ⌝ }
+    ensures { λ r. ⌜ From one (now (tokens .entry)) depth start several behind-name (s, now (tree .entry)) (r, now (tree .exit)) ⌝ }
 {
     let next = next_kind(tokens, s);
     if next == kind::OPEN_BRACKET {
@@ -141,7 +142,7 @@ fn behind_name(tokens: &[u32], tree: &mut [u32], start: Reading, s: Reading, dep
 // (50) declarator
 pub fn declarator(tokens: &[u32], tree: &mut [u32], s: Reading, depth: u32) -> Reading
     requires { ⌜ Short (now tokens) ⌝ }
-    ensures { λ r. ⌜ Reads (now (tokens .entry)) depth (call 50) (s, now (tree .entry)) (r, now (tree .exit)) ⌝ }
+    ensures { λ r. ⌜ Reads one (now (tokens .entry)) depth (call 50) (s, now (tree .entry)) (r, now (tree .exit)) ⌝ }
 {
     let tokens = &*tokens;
     let t = take(tokens, s, kind::IDENTIFIER);
@@ -151,7 +152,7 @@ pub fn declarator(tokens: &[u32], tree: &mut [u32], s: Reading, depth: u32) -> R
 // Further declarators, each behind a comma.
 fn further_declarators(tokens: &[u32], tree: &mut [u32], s: Reading, depth: u32) -> Reading
     requires { ⌜ Short (now tokens) ⌝ }
-    ensures { λ r. ⌜ Reads (now (tokens .entry)) depth (further 50) (s, now (tree .entry)) (r, now (tree .exit)) ⌝ }
+    ensures { λ r. ⌜ Reads one (now (tokens .entry)) depth (further 50) (s, now (tree .entry)) (r, now (tree .exit)) ⌝ }
 {
     let mut t = s;
     while next_kind(tokens, t) == kind::COMMA {
@@ -164,7 +165,7 @@ fn further_declarators(tokens: &[u32], tree: &mut [u32], s: Reading, depth: u32)
 // (49) declarators: one alone leaves no record.
 pub fn declarators(tokens: &[u32], tree: &mut [u32], s: Reading, depth: u32) -> Reading
     requires { ⌜ Short (now tokens) ⌝ }
-    ensures { λ r. ⌜ Reads (now (tokens .entry)) depth (call 49) (s, now (tree .entry)) (r, now (tree .exit)) ⌝ }
+    ensures { λ r. ⌜ Reads one (now (tokens .entry)) depth (call 49) (s, now (tree .entry)) (r, now (tree .exit)) ⌝ }
 {
     let t = declarator(&*tokens, tree, s, depth);
     let next = next_kind(tokens, t);
@@ -178,7 +179,7 @@ pub fn declarators(tokens: &[u32], tree: &mut [u32], s: Reading, depth: u32) -> 
 // Further enumerators, (79), each behind a comma.
 fn further_enumerators(tokens: &[u32], tree: &mut [u32], s: Reading) -> Reading
     requires { ⌜ Short (now tokens) ⌝ }
-    ensures { λ r. ⌜ Flat (now (tokens .entry)) (further 79) (s, now (tree .entry)) (r, now (tree .exit)) ⌝ }
+    ensures { λ r. ⌜ Flat one (now (tokens .entry)) (further 79) (s, now (tree .entry)) (r, now (tree .exit)) ⌝ }
 {
     let mut t = s;
     while next_kind(tokens, t) == kind::COMMA {
@@ -191,7 +192,7 @@ fn further_enumerators(tokens: &[u32], tree: &mut [u32], s: Reading) -> Reading
 // The enumerators between their braces.
 fn enumerators(tokens: &[u32], tree: &mut [u32], s: Reading, depth: u32) -> Reading
     requires { ⌜ Short (now tokens) ⌝ }
-    ensures { λ r. ⌜ Reads (now (tokens .entry)) depth enumerators (s, now (tree .entry)) (r, now (tree .exit)) ⌝ }
+    ensures { λ r. ⌜ Reads one (now (tokens .entry)) depth enumerators (s, now (tree .entry)) (r, now (tree .exit)) ⌝ }
 {
     let t = open(tokens, s, kind::OPEN_BRACE, depth);
     if has_stopped(t) {
@@ -205,7 +206,7 @@ fn enumerators(tokens: &[u32], tree: &mut [u32], s: Reading, depth: u32) -> Read
 // (78) enum_type
 pub fn enum_type(tokens: &[u32], tree: &mut [u32], s: Reading, depth: u32) -> Reading
     requires { ⌜ Short (now tokens) ⌝ }
-    ensures { λ r. ⌜ Reads (now (tokens .entry)) depth (call 78) (s, now (tree .entry)) (r, now (tree .exit)) ⌝ }
+    ensures { λ r. ⌜ Reads one (now (tokens .entry)) depth (call 78) (s, now (tree .entry)) (r, now (tree .exit)) ⌝ }
 {
     let tokens = &*tokens;
     let t = take(tokens, s, kind::ENUM);
@@ -217,7 +218,7 @@ pub fn enum_type(tokens: &[u32], tree: &mut [u32], s: Reading, depth: u32) -> Re
 // (95) param_type_spec
 pub fn param_type_spec(tokens: &[u32], tree: &mut [u32], s: Reading, depth: u32) -> Reading
     requires { ⌜ Short (now tokens) ⌝ }
-    ensures { λ r. ⌜ Reads (now (tokens .entry)) depth (call 95) (s, now (tree .entry)) (r, now (tree .exit)) ⌝ }
+    ensures { λ r. ⌜ Reads one (now (tokens .entry)) depth (call 95) (s, now (tree .entry)) (r, now (tree .exit)) ⌝ }
 {
     let tokens = &*tokens;
     let next = next_kind(tokens, s);
@@ -232,7 +233,7 @@ pub fn param_type_spec(tokens: &[u32], tree: &mut [u32], s: Reading, depth: u32)
 // (28) const_type
 pub fn const_type(tokens: &[u32], tree: &mut [u32], s: Reading, depth: u32) -> Reading
     requires { ⌜ Short (now tokens) ⌝ }
-    ensures { λ r. ⌜ Reads (now (tokens .entry)) depth (call 28) (s, now (tree .entry)) (r, now (tree .exit)) ⌝ }
+    ensures { λ r. ⌜ Reads one (now (tokens .entry)) depth (call 28) (s, now (tree .entry)) (r, now (tree .exit)) ⌝ }
 {
     let next = next_kind(tokens, s);
     match next {
@@ -255,7 +256,7 @@ pub fn const_type(tokens: &[u32], tree: &mut [u32], s: Reading, depth: u32) -> R
 // (73) switch_type_spec
 pub fn switch_type_spec(tokens: &[u32], tree: &mut [u32], s: Reading, depth: u32) -> Reading
     requires { ⌜ Short (now tokens) ⌝ }
-    ensures { λ r. ⌜ Reads (now (tokens .entry)) depth (call 73) (s, now (tree .entry)) (r, now (tree .exit)) ⌝ }
+    ensures { λ r. ⌜ Reads one (now (tokens .entry)) depth (call 73) (s, now (tree .entry)) (r, now (tree .exit)) ⌝ }
 {
     let next = next_kind(tokens, s);
     match next {
@@ -270,7 +271,7 @@ pub fn switch_type_spec(tokens: &[u32], tree: &mut [u32], s: Reading, depth: u32
 // (76) case_label
 pub fn case_label(tokens: &[u32], tree: &mut [u32], s: Reading, depth: u32) -> Reading
     requires { ⌜ Short (now tokens) ⌝ }
-    ensures { λ r. ⌜ Reads (now (tokens .entry)) depth (call 76) (s, now (tree .entry)) (r, now (tree .exit)) ⌝ }
+    ensures { λ r. ⌜ Reads one (now (tokens .entry)) depth (call 76) (s, now (tree .entry)) (r, now (tree .exit)) ⌝ }
 {
     let tokens = &*tokens;
     let next = next_kind(tokens, s);
@@ -288,7 +289,7 @@ pub fn case_label(tokens: &[u32], tree: &mut [u32], s: Reading, depth: u32) -> R
 // The bound of a sequence, behind a comma, or none.
 fn sequence_bound(tokens: &[u32], tree: &mut [u32], s: Reading, depth: u32) -> Reading
     requires { ⌜ Short (now tokens) ⌝ }
-    ensures { λ r. ⌜ Reads (now (tokens .entry)) depth sequence-bound (s, now (tree .entry)) (r, now (tree .exit)) ⌝ }
+    ensures { λ r. ⌜ Reads one (now (tokens .entry)) depth sequence-bound (s, now (tree .entry)) (r, now (tree .exit)) ⌝ }
 {
     let next = next_kind(tokens, s);
     if next == kind::COMMA {
@@ -301,7 +302,7 @@ fn sequence_bound(tokens: &[u32], tree: &mut [u32], s: Reading, depth: u32) -> R
 // What a sequence has between its angle brackets.
 fn sequence_body(tokens: &[u32], tree: &mut [u32], s: Reading, depth: u32) -> Reading
     requires { ⌜ Short (now tokens) ⌝ }
-    ensures { λ r. ⌜ Reads (now (tokens .entry)) depth sequence-body (s, now (tree .entry)) (r, now (tree .exit)) ⌝ }
+    ensures { λ r. ⌜ Reads one (now (tokens .entry)) depth sequence-body (s, now (tree .entry)) (r, now (tree .exit)) ⌝ }
 {
     let t = open(tokens, s, kind::OPEN_ANGLE, depth);
     if has_stopped(t) {
@@ -315,7 +316,7 @@ fn sequence_body(tokens: &[u32], tree: &mut [u32], s: Reading, depth: u32) -> Re
 // (80) sequence_type
 fn sequence_type(tokens: &[u32], tree: &mut [u32], s: Reading, depth: u32) -> Reading
     requires { ⌜ Short (now tokens) ⌝ }
-    ensures { λ r. ⌜ Reads (now (tokens .entry)) depth (call 80) (s, now (tree .entry)) (r, now (tree .exit)) ⌝ }
+    ensures { λ r. ⌜ Reads one (now (tokens .entry)) depth (call 80) (s, now (tree .entry)) (r, now (tree .exit)) ⌝ }
 {
     let t = take(tokens, s, kind::SEQUENCE);
     let u = sequence_body(&*tokens, tree, t, depth);
@@ -325,7 +326,7 @@ fn sequence_type(tokens: &[u32], tree: &mut [u32], s: Reading, depth: u32) -> Re
 // (47) template_type_spec
 fn template_type_spec(tokens: &[u32], tree: &mut [u32], s: Reading, depth: u32) -> Reading
     requires { ⌜ Short (now tokens) ⌝ }
-    ensures { λ r. ⌜ Reads (now (tokens .entry)) depth (call 47) (s, now (tree .entry)) (r, now (tree .exit)) ⌝ }
+    ensures { λ r. ⌜ Reads one (now (tokens .entry)) depth (call 47) (s, now (tree .entry)) (r, now (tree .exit)) ⌝ }
 {
     let next = next_kind(tokens, s);
     match next {
@@ -339,7 +340,7 @@ fn template_type_spec(tokens: &[u32], tree: &mut [u32], s: Reading, depth: u32) 
 // (45) simple_type_spec
 pub fn simple_type_spec(tokens: &[u32], tree: &mut [u32], s: Reading, depth: u32) -> Reading
     requires { ⌜ Short (now tokens) ⌝ }
-    ensures { λ r. ⌜ Reads (now (tokens .entry)) depth (call 45) (s, now (tree .entry)) (r, now (tree .exit)) ⌝ }
+    ensures { λ r. ⌜ Reads one (now (tokens .entry)) depth (call 45) (s, now (tree .entry)) (r, now (tree .exit)) ⌝ }
 {
     let next = next_kind(tokens, s);
     match next {

@@ -3,6 +3,7 @@
 ghost use mathlib.Core.Path.{_≡_};
 ghost use Rattle.grammar.specs.Sets.{elem};
 ghost use Rattle.prediction.specs.Plan.{call, many};
+ghost use Rattle.readers_core.specs.Course.{one};
 ghost use Rattle.readers_core.specs.Reading.{Short, Takes, Flat, From, Reads, Within, several};
 ghost use Rattle.readers_interfaces.specs.Plans.{further};
 ghost use Rattle.readers_values.specs.Plans.{supports, optional-supports, optional-truncatable, inherits, optional-bases};
@@ -29,7 +30,7 @@ use readers_types::param_type_spec;
 // "supports" and interfaces.
 fn supports(tokens: &[u32], tree: &mut [u32], s: Reading) -> Reading
     requires { ⌜ Short (now tokens) ⌝ }
-    ensures { λ r. ⌜ Flat (now (tokens .entry)) supports (s, now (tree .entry)) (r, now (tree .exit)) ⌝ }
+    ensures { λ r. ⌜ Flat one (now (tokens .entry)) supports (s, now (tree .entry)) (r, now (tree .exit)) ⌝ }
 {
     let t = take(tokens, s, kind::SUPPORTS);
     scoped_names(&*tokens, tree, t)
@@ -38,7 +39,7 @@ fn supports(tokens: &[u32], tree: &mut [u32], s: Reading) -> Reading
 // The interfaces that a value supports, if any.
 fn supported(tokens: &[u32], tree: &mut [u32], s: Reading) -> Reading
     requires { ⌜ Short (now tokens) ⌝ }
-    ensures { λ r. ⌜ Flat (now (tokens .entry)) optional-supports (s, now (tree .entry)) (r, now (tree .exit)) ⌝ }
+    ensures { λ r. ⌜ Flat one (now (tokens .entry)) optional-supports (s, now (tree .entry)) (r, now (tree .exit)) ⌝ }
 {
     let next = next_kind(tokens, s);
     match next {
@@ -62,7 +63,7 @@ fn truncatable(tokens: &[u32], s: Reading) -> Reading
 // ":" and values, and the interfaces that are supported besides.
 fn inherits(tokens: &[u32], tree: &mut [u32], s: Reading) -> Reading
     requires { ⌜ Short (now tokens) ⌝ }
-    ensures { λ r. ⌜ Flat (now (tokens .entry)) inherits (s, now (tree .entry)) (r, now (tree .exit)) ⌝ }
+    ensures { λ r. ⌜ Flat one (now (tokens .entry)) inherits (s, now (tree .entry)) (r, now (tree .exit)) ⌝ }
 {
     let t = take(tokens, s, kind::COLON);
     let u = truncatable(&*tokens, t);
@@ -73,7 +74,7 @@ fn inherits(tokens: &[u32], tree: &mut [u32], s: Reading) -> Reading
 // (19) value_inheritance_spec
 fn value_inheritance_spec(tokens: &[u32], tree: &mut [u32], s: Reading) -> Reading
     requires { ⌜ Short (now tokens) ⌝ }
-    ensures { λ r. ⌜ Flat (now (tokens .entry)) (call 19) (s, now (tree .entry)) (r, now (tree .exit)) ⌝ }
+    ensures { λ r. ⌜ Flat one (now (tokens .entry)) (call 19) (s, now (tree .entry)) (r, now (tree .exit)) ⌝ }
 {
     let next = next_kind(tokens, s);
     match next {
@@ -91,7 +92,7 @@ fn value_inheritance_spec(tokens: &[u32], tree: &mut [u32], s: Reading) -> Readi
 // The bases of a value, if any: without them rule 19 is not used.
 fn bases(tokens: &[u32], tree: &mut [u32], s: Reading) -> Reading
     requires { ⌜ Short (now tokens) ⌝ }
-    ensures { λ r. ⌜ Flat (now (tokens .entry)) optional-bases (s, now (tree .entry)) (r, now (tree .exit)) ⌝ }
+    ensures { λ r. ⌜ Flat one (now (tokens .entry)) optional-bases (s, now (tree .entry)) (r, now (tree .exit)) ⌝ }
 {
     let next = next_kind(tokens, s);
     match next {
@@ -115,7 +116,7 @@ fn visibility(tokens: &[u32], s: Reading) -> Reading
 // (22) state_member
 fn state_member(tokens: &[u32], tree: &mut [u32], s: Reading, depth: u32) -> Reading
     requires { ⌜ Short (now tokens) ⌝ }
-    ensures { λ r. ⌜ Reads (now (tokens .entry)) depth (call 22) (s, now (tree .entry)) (r, now (tree .exit)) ⌝ }
+    ensures { λ r. ⌜ Reads one (now (tokens .entry)) depth (call 22) (s, now (tree .entry)) (r, now (tree .exit)) ⌝ }
 {
     let tokens = &*tokens;
     let t = visibility(&*tokens, s);
@@ -128,7 +129,7 @@ fn state_member(tokens: &[u32], tree: &mut [u32], s: Reading, depth: u32) -> Rea
 // (25) init_param_decl; (26) init_param_attribute and (51) simple_declarator are one token each.
 fn init_param_decl(tokens: &[u32], tree: &mut [u32], s: Reading, depth: u32) -> Reading
     requires { ⌜ Short (now tokens) ⌝ }
-    ensures { λ r. ⌜ Reads (now (tokens .entry)) depth (call 25) (s, now (tree .entry)) (r, now (tree .exit)) ⌝ }
+    ensures { λ r. ⌜ Reads one (now (tokens .entry)) depth (call 25) (s, now (tree .entry)) (r, now (tree .exit)) ⌝ }
 {
     let t = word(&*tokens, tree, s, kind::IN, 26);
     let u = param_type_spec(&*tokens, tree, t, depth);
@@ -139,7 +140,7 @@ fn init_param_decl(tokens: &[u32], tree: &mut [u32], s: Reading, depth: u32) -> 
 // Further parameters, each behind a comma.
 fn further_parameters(tokens: &[u32], tree: &mut [u32], s: Reading, depth: u32) -> Reading
     requires { ⌜ Short (now tokens) ⌝ }
-    ensures { λ r. ⌜ Reads (now (tokens .entry)) depth (many (further 25)) (s, now (tree .entry)) (r, now (tree .exit)) ⌝ }
+    ensures { λ r. ⌜ Reads one (now (tokens .entry)) depth (many (further 25)) (s, now (tree .entry)) (r, now (tree .exit)) ⌝ }
 {
     let mut t = s;
     while next_kind(tokens, t) == kind::COMMA {
@@ -152,7 +153,7 @@ fn further_parameters(tokens: &[u32], tree: &mut [u32], s: Reading, depth: u32) 
 // (24) init_param_decls: one alone leaves no record.
 fn init_param_decls(tokens: &[u32], tree: &mut [u32], s: Reading, depth: u32) -> Reading
     requires { ⌜ Short (now tokens) ⌝ }
-    ensures { λ r. ⌜ Reads (now (tokens .entry)) depth (call 24) (s, now (tree .entry)) (r, now (tree .exit)) ⌝ }
+    ensures { λ r. ⌜ Reads one (now (tokens .entry)) depth (call 24) (s, now (tree .entry)) (r, now (tree .exit)) ⌝ }
 {
     let t = init_param_decl(&*tokens, tree, s, depth);
     let next = next_kind(tokens, t);
@@ -166,7 +167,7 @@ fn init_param_decls(tokens: &[u32], tree: &mut [u32], s: Reading, depth: u32) ->
 // Parameters, if any.
 fn parameters(tokens: &[u32], tree: &mut [u32], s: Reading, depth: u32) -> Reading
     requires { ⌜ Short (now tokens) ⌝ }
-    ensures { λ r. ⌜ Reads (now (tokens .entry)) depth optional-parameters (s, now (tree .entry)) (r, now (tree .exit)) ⌝ }
+    ensures { λ r. ⌜ Reads one (now (tokens .entry)) depth optional-parameters (s, now (tree .entry)) (r, now (tree .exit)) ⌝ }
 {
     let next = next_kind(tokens, s);
     match next {
@@ -178,7 +179,7 @@ fn parameters(tokens: &[u32], tree: &mut [u32], s: Reading, depth: u32) -> Readi
 // Parameters between parentheses, at one level of depth less.
 fn initializer_parameters(tokens: &[u32], tree: &mut [u32], s: Reading, depth: u32) -> Reading
     requires { ⌜ Short (now tokens) ⌝ }
-    ensures { λ r. ⌜ Reads (now (tokens .entry)) depth initializer-parameters (s, now (tree .entry)) (r, now (tree .exit)) ⌝ }
+    ensures { λ r. ⌜ Reads one (now (tokens .entry)) depth initializer-parameters (s, now (tree .entry)) (r, now (tree .exit)) ⌝ }
 {
     let t = open(tokens, s, kind::OPEN_PARENTHESIS, depth);
     if has_stopped(t) {
@@ -191,7 +192,7 @@ fn initializer_parameters(tokens: &[u32], tree: &mut [u32], s: Reading, depth: u
 // (23) init_dcl
 fn init_dcl(tokens: &[u32], tree: &mut [u32], s: Reading, depth: u32) -> Reading
     requires { ⌜ Short (now tokens) ⌝ }
-    ensures { λ r. ⌜ Reads (now (tokens .entry)) depth (call 23) (s, now (tree .entry)) (r, now (tree .exit)) ⌝ }
+    ensures { λ r. ⌜ Reads one (now (tokens .entry)) depth (call 23) (s, now (tree .entry)) (r, now (tree .exit)) ⌝ }
 {
     let t = take(tokens, s, kind::FACTORY);
     let u = take(tokens, t, kind::IDENTIFIER);
@@ -203,7 +204,7 @@ fn init_dcl(tokens: &[u32], tree: &mut [u32], s: Reading, depth: u32) -> Reading
 // (21) value_element
 fn value_element(tokens: &[u32], tree: &mut [u32], s: Reading, depth: u32) -> Reading
     requires { ⌜ Short (now tokens) ⌝ }
-    ensures { λ r. ⌜ Reads (now (tokens .entry)) depth (call 21) (s, now (tree .entry)) (r, now (tree .exit)) ⌝ }
+    ensures { λ r. ⌜ Reads one (now (tokens .entry)) depth (call 21) (s, now (tree .entry)) (r, now (tree .exit)) ⌝ }
 {
     let next = next_kind(tokens, s);
     match next {
@@ -228,7 +229,7 @@ fn starts_element(kind: u32) -> bool
 // Elements of a value, as many as there are.
 fn elements(tokens: &[u32], tree: &mut [u32], s: Reading, depth: u32) -> Reading
     requires { ⌜ Short (now tokens) ⌝ }
-    ensures { λ r. ⌜ Reads (now (tokens .entry)) depth (many (call 21)) (s, now (tree .entry)) (r, now (tree .exit)) ⌝ }
+    ensures { λ r. ⌜ Reads one (now (tokens .entry)) depth (many (call 21)) (s, now (tree .entry)) (r, now (tree .exit)) ⌝ }
 {
     let mut t = s;
     while starts_element(next_kind(tokens, t)) {
@@ -240,7 +241,7 @@ fn elements(tokens: &[u32], tree: &mut [u32], s: Reading, depth: u32) -> Reading
 // Elements in braces, at one level of depth less.
 fn braced_elements(tokens: &[u32], tree: &mut [u32], s: Reading, depth: u32) -> Reading
     requires { ⌜ Short (now tokens) ⌝ }
-    ensures { λ r. ⌜ Reads (now (tokens .entry)) depth braced-elements (s, now (tree .entry)) (r, now (tree .exit)) ⌝ }
+    ensures { λ r. ⌜ Reads one (now (tokens .entry)) depth braced-elements (s, now (tree .entry)) (r, now (tree .exit)) ⌝ }
 {
     let t = open(tokens, s, kind::OPEN_BRACE, depth);
     if has_stopped(t) {
@@ -253,7 +254,7 @@ fn braced_elements(tokens: &[u32], tree: &mut [u32], s: Reading, depth: u32) -> 
 // Exports in braces, at one level of depth less.
 fn braced_exports(tokens: &[u32], tree: &mut [u32], s: Reading, depth: u32) -> Reading
     requires { ⌜ Short (now tokens) ⌝ }
-    ensures { λ r. ⌜ Reads (now (tokens .entry)) depth braced-exports (s, now (tree .entry)) (r, now (tree .exit)) ⌝ }
+    ensures { λ r. ⌜ Reads one (now (tokens .entry)) depth braced-exports (s, now (tree .entry)) (r, now (tree .exit)) ⌝ }
 {
     let t = open(tokens, s, kind::OPEN_BRACE, depth);
     if has_stopped(t) {
@@ -266,7 +267,7 @@ fn braced_exports(tokens: &[u32], tree: &mut [u32], s: Reading, depth: u32) -> R
 // Behind the name: the end of (18) value_header and the body of (17) value_dcl.
 fn value_dcl(tokens: &[u32], tree: &mut [u32], start: Reading, s: Reading, depth: u32) -> Reading
     requires { ⌜ Short (now tokens) ⌝ }
-    ensures { λ r. ⌜ From (now (tokens .entry)) depth start several value-body (s, now (tree .entry)) (r, now (tree .exit)) ⌝ }
+    ensures { λ r. ⌜ From one (now (tokens .entry)) depth start several value-body (s, now (tree .entry)) (r, now (tree .exit)) ⌝ }
 {
     let t = bases(&*tokens, tree, s);
     let u = node(tree, start, t, 18);
@@ -277,7 +278,7 @@ fn value_dcl(tokens: &[u32], tree: &mut [u32], start: Reading, s: Reading, depth
 // Behind the name: (15) value_box_dcl, (17) value_dcl or (14) value_forward_dcl.
 fn behind_name(tokens: &[u32], tree: &mut [u32], start: Reading, s: Reading, depth: u32) -> Reading
     requires { ⌜ Short (now tokens) ⌝ }
-    ensures { λ r. ⌜ From (now (tokens .entry)) depth start several behind-name (s, now (tree .entry)) (r, now (tree .exit)) ⌝ }
+    ensures { λ r. ⌜ From one (now (tokens .entry)) depth start several behind-name (s, now (tree .entry)) (r, now (tree .exit)) ⌝ }
 {
     let next = next_kind(tokens, s);
     if starts_type(next) {
@@ -299,7 +300,7 @@ fn behind_name(tokens: &[u32], tree: &mut [u32], start: Reading, s: Reading, dep
 // (13) value, from "valuetype" on.
 pub fn value(tokens: &[u32], tree: &mut [u32], start: Reading, s: Reading, depth: u32) -> Reading
     requires { ⌜ Short (now tokens) ⌝ }
-    ensures { λ r. ⌜ Within (now (tokens .entry)) depth start value-rest (s, now (tree .entry)) (r, now (tree .exit)) ⌝ }
+    ensures { λ r. ⌜ Within one (now (tokens .entry)) depth start value-rest (s, now (tree .entry)) (r, now (tree .exit)) ⌝ }
 {
     let t = take(tokens, s, kind::VALUETYPE);
     let u = take(tokens, t, kind::IDENTIFIER);
@@ -315,7 +316,7 @@ pub fn custom_value(
     depth: u32,
 ) -> Reading
     requires { ⌜ Short (now tokens) ⌝ }
-    ensures { λ r. ⌜ Within (now (tokens .entry)) depth start custom-rest (s, now (tree .entry)) (r, now (tree .exit)) ⌝ }
+    ensures { λ r. ⌜ Within one (now (tokens .entry)) depth start custom-rest (s, now (tree .entry)) (r, now (tree .exit)) ⌝ }
 {
     let t = take(tokens, s, kind::VALUETYPE);
     let u = take(tokens, t, kind::IDENTIFIER);
@@ -331,7 +332,7 @@ fn value_abs_dcl(
     depth: u32,
 ) -> Reading
     requires { ⌜ Short (now tokens) ⌝ }
-    ensures { λ r. ⌜ Within (now (tokens .entry)) depth start abstract-body (s, now (tree .entry)) (r, now (tree .exit)) ⌝ }
+    ensures { λ r. ⌜ Within one (now (tokens .entry)) depth start abstract-body (s, now (tree .entry)) (r, now (tree .exit)) ⌝ }
 {
     let t = bases(&*tokens, tree, s);
     let u = braced_exports(&*tokens, tree, t, depth);
@@ -347,7 +348,7 @@ pub fn abstract_value(
     depth: u32,
 ) -> Reading
     requires { ⌜ Short (now tokens) ⌝ }
-    ensures { λ r. ⌜ Within (now (tokens .entry)) depth start abstract-rest (s, now (tree .entry)) (r, now (tree .exit)) ⌝ }
+    ensures { λ r. ⌜ Within one (now (tokens .entry)) depth start abstract-rest (s, now (tree .entry)) (r, now (tree .exit)) ⌝ }
 {
     let t = take(tokens, s, kind::VALUETYPE);
     let u = take(tokens, t, kind::IDENTIFIER);

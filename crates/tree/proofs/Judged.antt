@@ -11,10 +11,9 @@ use lib.ListN.{length, take, length-map}
 use Rattle.grammar.specs.Derivation as grammar
 use Rattle.grammar.specs.Derivation.{Derivation}
 use Rattle.grammar.specs.Forest.{Forest, end}
-use Rattle.grammar.specs.Idl.{idl}
 use Rattle.grammar.specs.Record.{TreeRecord, tree-record, records, shape}
+use Rattle.grammar.specs.Rule.{Edition}
 use Rattle.grammar.specs.Sets.{elem}
-use Rattle.prediction.proofs.IdlChecked.{idl-checked, idl-table}
 use Rattle.prediction.specs.Plan.{call}
 use Rattle.prediction.specs.Run.{Outcome, deep, Runs}
 use Rattle.prediction.proofs.Theorems.{records-bounded}
@@ -28,9 +27,11 @@ use Rattle.meaning.specs.Verdict.{Verdict, verdict}
 use Rattle.meaning.specs.Answer.{tree-reply, tree-after}
 use Rattle.meaning.specs.Calls.{first-records}
 use Rattle.verdicts.proofs.Outcomes.{of-outcome, outcome-verdict}
+use Rattle.readers_core.specs.Course.{Course, coded, all-coded, noted, table-in}
 use Rattle.readers_core.specs.Reading.{Reading, view, ceiling, write, writes, nothing, Held, Ends, ends-done, ends-blame}
 use Rattle.readers_core.specs.Reading.{ends-deep, Reads}
 use Rattle.readers_core.proofs.Holding.{held-none}
+use Rattle.readers_core.proofs.Sharing.{at-home}
 use Rattle.readers_core.proofs.Storing.{write-below}
 use Rattle.tree.specs.Conclusion.{complete, concluded, kept-tree}
 use Rattle.tree.proofs.Lists.{length-records, kinds-listed, places-listed}
@@ -43,6 +44,16 @@ writes-stored w n (tree-record a b c d ∷ rs) h =
     writes-stored (write w n (tree-record a b c d)) (suc n) rs (omega arith)
     ∙ ap (λ (v : List ℕ). store node-width v (suc n) (map numbers rs)) (sym (write-below w a (omega arith) refl refl refl refl))
 
+-- where readers write the numbers of the rules themselves, what they write are the records
+coded-plain : (code : ℕ → ℕ) → ((r : ℕ) → code r ≡ r) → (rs : List TreeRecord) → all-coded code rs ≡ rs
+unfolding all-coded coded
+coded-plain code e [] = refl
+coded-plain code e (tree-record a b c d ∷ rs) = rw (e a, coded-plain code e rs)
+
+noted-plain : (C : Course) → ((r : ℕ) → C .code r ≡ r) → (i : ℕ) (f : Forest) → noted C i f ≡ records (C .edition) i f
+unfolding noted
+noted-plain C e i f = coded-plain (C .code) e (records (C .edition) i f)
+
 zeroed-same : (w w′ : List ℕ) → length w′ ≡ length w → zeroed w′ ≡ zeroed w
 zeroed-same w w′ e = rw e
 
@@ -50,7 +61,10 @@ zeroed-same w w′ e = rw e
 abbrev beginning : Reading
 beginning = view 0
 
-module _ (tokens : List ℕ) (count text depth : ℕ) (fits : token-width * count ≤ length tokens) (few : count < 2 ^ 26) where
+module _ (C : Course) (plain : (r : ℕ) → C .code r ≡ r) (tokens : List ℕ) (count text depth : ℕ) (fits : token-width * count ≤ length tokens) (few : count < 2 ^ 26) where
+  abbrev E : Edition
+  E = C .edition
+
   abbrev pub list : List ℕ
   list = take (token-width * count) tokens
 
@@ -89,53 +103,55 @@ module _ (tokens : List ℕ) (count text depth : ℕ) (fits : token-width * coun
     }
 
     -- the whole list is derived
-    module _ (g : Forest) (whole : complete count s ≡ true) (d : Derivation idl kinds g) (held : Held (beginning, w) g (s, w′)) where
-      size-is : length (tree-records idl g) ≡ length (records idl 0 g)
+    module _ (g : Forest) (whole : complete count s ≡ true) (d : Derivation E kinds g) (held : Held C (beginning, w) g (s, w′)) where
+      size-is : length (tree-records E g) ≡ length (records E 0 g)
       unfolding tree-records
-      size-is = length-map (records idl 0 g) numbers
+      size-is = length-map (records E 0 g) numbers
 
       -- nothing counted reaches the ceiling
-      small : length (records idl 0 g) ≤ ceiling
-      small = let h = records-bounded idl-checked kinds g d in let e = count-is in omega arith
+      small : length (records E 0 g) ≤ ceiling
+      small = let h = records-bounded (C .checked) kinds g d in let e = count-is in omega arith
 
-      counted-is : s .count ≡ length (tree-records idl g)
-      counted-is = let e = held .count-is in let z = size-is in let h = small in omega arith
+      counted-is : s .count ≡ length (tree-records E g)
+      counted-is = let e = held .count-is in let n = ap length (noted-plain C plain 0 g) in let z = size-is in let h = small in omega arith
 
-      stored-is : w′ ≡ store node-width w 0 (tree-records idl g)
+      stored-is : w′ ≡ store node-width w 0 (tree-records E g)
       unfolding tree-records
-      stored-is = held .table-is ∙ writes-stored w 0 (records idl 0 g) (let h = small in omega arith)
+      stored-is =
+          held .table-is ∙ ap (λ (rs : List TreeRecord). writes w 0 rs) (noted-plain C plain 0 g)
+          ∙ writes-stored w 0 (records E 0 g) (let h = small in omega arith)
 
       rooms : capacity node-width w′ ≡ room
       unfolding room
       rooms = rw same
 
-      full-right : room < length (tree-records idl g) → Right w w′ s (verdict.full (length (tree-records idl g)))
+      full-right : room < length (tree-records E g) → Right w w′ s (verdict.full (length (tree-records E g)))
       unfolding concluded kept-tree tree-reply tree-after ts
       full-right h = record {
-        said = simp (whole, rooms, counted-is, lt-ltb room (length (tree-records idl g)) h, length-records token-width count tokens);
-        table = simp (whole, rooms, counted-is, lt-ltb room (length (tree-records idl g)) h, zeroed-same w w′ same);
+        said = simp (whole, rooms, counted-is, lt-ltb room (length (tree-records E g)) h, length-records token-width count tokens);
+        table = simp (whole, rooms, counted-is, lt-ltb room (length (tree-records E g)) h, zeroed-same w w′ same);
       }
 
-      four-rs : Records node-width (tree-records idl g)
+      four-rs : Records node-width (tree-records E g)
       unfolding tree-records
-      four-rs = four-wide (records idl 0 g)
+      four-rs = four-wide (records E 0 g)
 
-      accepted-right : length (tree-records idl g) ≤ room → Right w w′ s (verdict.accepted (tree-records idl g))
+      accepted-right : length (tree-records E g) ≤ room → Right w w′ s (verdict.accepted (tree-records E g))
       unfolding concluded kept-tree tree-reply tree-after ts room
       accepted-right h = record {
-        said = simp (whole, rooms, counted-is, le-ltb room (length (tree-records idl g)) h, length-records token-width count tokens);
+        said = simp (whole, rooms, counted-is, le-ltb room (length (tree-records E g)) h, length-records token-width count tokens);
         table =
-            simp (whole, rooms, counted-is, le-ltb room (length (tree-records idl g)) h)
-            (stored-is ∙ store-front node-width w four-rs (capacity-fits node-width w (length (tree-records idl g)) h));
+            simp (whole, rooms, counted-is, le-ltb room (length (tree-records E g)) h)
+            (stored-is ∙ store-front node-width w four-rs (capacity-fits node-width w (length (tree-records E g)) h));
       }
 
       derived-right :
           Right w w′ s
-          (cond (ltb room (length (tree-records idl g))) (verdict.full (length (tree-records idl g))) (verdict.accepted (tree-records idl g)))
-      derived-right = pick (ltb room (length (tree-records idl g))) (ltb→lt room (length (tree-records idl g))) (nltb→le room (length (tree-records idl g)))
+          (cond (ltb room (length (tree-records E g))) (verdict.full (length (tree-records E g))) (verdict.accepted (tree-records E g)))
+      derived-right = pick (ltb room (length (tree-records E g))) (ltb→lt room (length (tree-records E g))) (nltb→le room (length (tree-records E g)))
         where
-          pick : (b : Bool) → (T b → room < length (tree-records idl g)) → (T (not b) → length (tree-records idl g) ≤ room) →
-              Right w w′ s (cond b (verdict.full (length (tree-records idl g))) (verdict.accepted (tree-records idl g)))
+          pick : (b : Bool) → (T b → room < length (tree-records E g)) → (T (not b) → length (tree-records E g) ≤ room) →
+              Right w w′ s (cond b (verdict.full (length (tree-records E g))) (verdict.accepted (tree-records E g)))
           pick true x y = full-right (x tt)
           pick false x y = accepted-right (y tt)
 
@@ -151,8 +167,8 @@ module _ (tokens : List ℕ) (count text depth : ℕ) (fits : token-width * coun
     unfolding complete
     stopped-here a = simp (ne-eqb (s .answer) 0 a)
 
-    outcome-right : {x : Outcome} → Says idl depth kinds x → Ends (beginning, w) end (beginning, w) (s, w′) x →
-        Right w w′ s (of-outcome idl (length kinds) room x)
+    outcome-right : {x : Outcome} → Says E depth kinds x → Ends C (beginning, w) end (beginning, w) (s, w′) x →
+        Right w w′ s (of-outcome E (length kinds) room x)
     unfolding of-outcome tree-records
     outcome-right (says-derived {g} {j} e d i) (ends-done a p h) =
         let whole = done-here a (omega (arith, count-is)) in
@@ -166,12 +182,12 @@ module _ (tokens : List ℕ) (count text depth : ℕ) (fits : token-width * coun
     outcome-right (says-deep {q} l v t) (ends-deep a p) = deep-right q (stopped-here (λ e. omega arith)) (eq-eqb (s .answer) 8 a) p
 
   -- so whatever the list means, the reading concluded is its verdict
-  pub judged : (w w′ : List ℕ) → length w′ ≡ length w → (s : ℕ) → Reads list depth (call 1) (0, w) (s, w′) →
-      (sense : Sense) → Means idl kinds sense → Right w w′ (view s) (verdict depth (capacity node-width w) kinds sense)
-  unfolding idl shape elem
+  pub judged : (w w′ : List ℕ) → length w′ ≡ length w → (s : ℕ) → Reads C list depth (call (E .start)) (0, w) (s, w′) →
+      (sense : Sense) → Means E kinds sense → Right w w′ (view s) (verdict depth (capacity node-width w) kinds sense)
+  unfolding shape elem
   judged w w′ same s r sense m =
-      let ran = r .in-any 0 nothing .does (beginning, w) refl refl .runs refl end tt in
-      let run = subst (λ (k : ℕ → ℕ). Runs idl-table k depth (call 1) 0 end (ran .outcome)) (fun-ext (kinds-listed count tokens fits)) (ran .run) in
-      let e = outcome-verdict idl-checked depth (capacity node-width w) kinds (says idl-checked depth kinds (ran .outcome) run) m in
+      let ran = at-home (r .in-any 0 nothing) (beginning, w) refl refl .runs refl end tt in
+      let run = subst (λ (k : ℕ → ℕ). Runs (table-in C) k depth (call (E .start)) 0 end (ran .outcome)) (fun-ext (kinds-listed count tokens fits)) (ran .run) in
+      let e = outcome-verdict (C .checked) depth (capacity node-width w) kinds (says (C .checked) depth kinds (ran .outcome) run) m in
       subst (λ (v : Verdict). Right w w′ (view s) v) e
-      (outcome-right w w′ same (view s) (says idl-checked depth kinds (ran .outcome) run) (ran .ends))
+      (outcome-right w w′ same (view s) (says (C .checked) depth kinds (ran .outcome) run) (ran .ends))

@@ -12,10 +12,10 @@ use Rattle.readers_core.proofs.node.Statement.{statement}
 use Rattle.readers_core.proofs.node.Tie as tie
 
 returns : tie.Need-returns
-returns c = record { wraps = λ ks d hs t. full-node t (omega (arith, c .if1 .taken)) }
+returns c = record { wraps = λ is ks d hs t. full-node t (omega (arith, c .if1 .taken)) }
 
 returns-2 : tie.Need-returns-2
-returns-2 c = record { wraps = λ ks d hs t. full-node t (omega (arith, c .if2 .taken)) }
+returns-2 c = record { wraps = λ is ks d hs t. full-node t (omega (arith, c .if2 .taken)) }
 
 returns-3 : tie.Need-returns-3
 returns-3 c =
@@ -30,8 +30,8 @@ returns-3 c =
     let put-node = c .before .before .put-node in
     let low : view (args .s) .count < ceiling = omega (arith, if2 .left) in
     record {
-      wraps = λ ks d hs t.
-          recorded-node t (goes-on (args .s) (if1 .left)) low (counted-goes (args .s) low)
+      wraps = λ is ks d hs t.
+          recorded-node is t (goes-on (args .s) (if1 .left)) low (counted-goes (args .s) low)
           (counted-at (args .s) low) (counted-count (args .s) low)
           (λ le le′. (put-node .ensures) ∙ write-below (args .tree .now) (args .rule) low (records .ensures)
           ((low-start .ensures) ∙ started-at (args .s) low (args .start) le′)

@@ -1,5 +1,6 @@
 -- The readers of expressions, which call each other, meet their contracts: each reads its rule as its plan is.
 -- The remaining depth falls at "(", and below it the level rises to (36), then unary and primary. Assumes nothing.
+use Rattle.grammar.specs.Idl.{idl}
 use Rattle.prediction.specs.Check.{table}
 use Rattle.prediction.specs.Columns.{plan-at, round}
 use Rattle.prediction.specs.IdlPlans.{idl-prediction}
@@ -11,6 +12,7 @@ use Rattle.readers_core.proofs.Repetition.{remaining}
 use Rattle.readers_core.proofs.Sequence.{_▸_}
 use Rattle.readers_core.proofs.Shapes.{leaves}
 use Rattle.readers_core.proofs.Views.{going-if, stopped-if}
+use Rattle.readers_core.specs.Course.{one}
 use Rattle.readers_core.specs.Reading.{Reads, all-recorded, none-recorded}
 use Rattle.readers_expressions.proofs.Climbing.{Ready, climbed, less, settled}
 use Rattle.readers_expressions.proofs.Operations.{bounded, kind-of}
@@ -105,7 +107,7 @@ binary-claims t = (
 
 abbrev binary-Inv-loop : binary-lts.InvT-loop
 binary-Inv-loop tokens tree₀ s depth level t₀ tree t =
-    (length tree ≡ length tree₀) × ((w : List ℕ) → Reads tokens depth (call 36) (s, w) (t₀, tree₀) →
+    (length tree ≡ length tree₀) × ((w : List ℕ) → Reads one tokens depth (call 36) (s, w) (t₀, tree₀) →
     Ready tokens depth level (s, w) (t, tree))
 
 abbrev binary-μ-loop : binary-lts.MeasureT-loop
@@ -274,7 +276,7 @@ primary-returns-2 t c =
     let match-on = c .before .before .before .before .before .before .before .before .match in
     let parenthesized = c .before .before .before .before .before .before .parenthesized in
     let node = c .before .before .node in
-    frame-on 38 (among (71 ∷ [])) (next-kind .ensures) (match-on .keys2) ((parenthesized .ensures .in-any _ _) ▸ (node .ensures .wraps _ _ _ tt))
+    frame-on 38 (among (71 ∷ [])) (next-kind .ensures) (match-on .keys2) ((parenthesized .ensures .in-any _ _) ▸ (node .ensures .wraps refl _ _ _ tt))
 
 primary-returns-3 : (t : ℕ) → primary-lts.Need-returns-3 (primary-claims t) (primary-at t) primary.Post
 unfolding table round plan-at idl-prediction choose Knows leaves all-recorded none-recorded
@@ -315,7 +317,7 @@ unary-returns t c =
     frame-on 36 (among signs) (next-kind .ensures)
     (elem-any signs (next-kind .result) (holds (next-kind .result) signs (is-sign .ensures) (if1 .taken)))
     (((unary-operator .ensures .at-any _ .in-any _ _) ▸ (primary .ensures .in-any _ _)) ▸
-    (node .ensures .wraps _ _ _ tt))
+    (node .ensures .wraps refl _ _ _ tt))
 
 unary-returns-2 : (t : ℕ) → unary-lts.Need-returns-2 (unary-claims t) (unary-at t) unary.Post
 unfolding table round plan-at idl-prediction choose Knows signs leaves all-recorded none-recorded

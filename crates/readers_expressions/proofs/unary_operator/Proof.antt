@@ -1,5 +1,6 @@
 -- `unary_operator` reads rule 37 in a frame of its own: the kind ahead is one that the rule takes, or the last is asked for.
 -- Its calls are put together as its plan is. Assumes nothing.
+use Rattle.grammar.specs.Idl.{idl}
 use Rattle.prediction.specs.Check.{table}
 use Rattle.prediction.specs.Columns.{plan-at, round}
 use Rattle.prediction.specs.IdlPlans.{idl-prediction}
@@ -7,7 +8,9 @@ use Rattle.readers_core.proofs.Choosing.{Knows, among, choose, except, one-of}
 use Rattle.readers_core.proofs.Frames.{chosen, frame, taken-of}
 use Rattle.readers_core.proofs.Sequence.{_▸_}
 use Rattle.readers_core.proofs.Shapes.{leaves}
+use Rattle.readers_core.specs.Course.{one}
 use Rattle.readers_core.specs.Reading.{all-recorded, none-recorded}
+use mathlib.Core.Path.{refl}
 use borrow.Author.Needs.{needs}
 use mathlib.Core.List.{[], _∷_}
 use mathlib.Core.Logic.{⊎-elim}
@@ -29,7 +32,7 @@ returns c =
     record {
       at-any =
           λ d. frame 37 (taken-of (among (83 ∷ 87 ∷ [])) (next-kind .ensures) (match-on .keys1) tt
-          ((take .ensures .reads _ _ .in-any _ _) ▸ (node .ensures .wraps _ _ _ tt)));
+          ((take .ensures .reads _ _ .in-any _ _) ▸ (node .ensures .wraps refl _ _ _ tt)));
     }
 
 returns-2 : tie.Need-returns-2
@@ -42,7 +45,7 @@ returns-2 c =
     record {
       at-any =
           λ d. frame 37 (chosen (except ((83 ∷ 87 ∷ []) ∷ [])) (next-kind .ensures) (match-on .rest)
-          ((take2 .ensures .reads _ _ .in-any _ _) ▸ (node2 .ensures .wraps _ _ _ tt)));
+          ((take2 .ensures .reads _ _ .in-any _ _) ▸ (node2 .ensures .wraps refl _ _ _ tt)));
     }
 
 pub unary-operator-spec : {M : Type 1} → statement M

@@ -1,5 +1,6 @@
 -- `interface` reads by its plan: ":" or "{" tells that a body is there, and else the declaration is a forward one.
 -- What the plan comes to is what was called; rule 4 leaves no record. Assumes nothing.
+use Rattle.grammar.specs.Idl.{idl}
 use Rattle.prediction.specs.Check.{table}
 use Rattle.prediction.specs.Columns.{plan-at, round}
 use Rattle.prediction.specs.IdlPlans.{idl-prediction}
@@ -8,6 +9,7 @@ use Rattle.readers_core.proofs.Frames.{chosen}
 use Rattle.readers_core.proofs.Sequence.{_▸_, unrecorded}
 use Rattle.readers_core.proofs.Shapes.{leaves}
 use Rattle.readers_core.specs.Reading.{all-recorded, none-recorded}
+use mathlib.Core.Path.{refl}
 use borrow.Author.Needs.{needs}
 use mathlib.Core.List.{[], _∷_}
 use Rattle.readers_interfaces.proofs.interface.Statement.{statement}
@@ -38,7 +40,7 @@ returns-2 c =
     record {
       of-any = λ hs. (take .ensures .reads _ _ .in-any _ _) ▸ (take2 .ensures .reads _ _ .in-any _ _) ▸
           chosen (except ((65 ∷ 67 ∷ []) ∷ [])) (next-kind .ensures) (match-on .rest)
-          ((node .ensures .wraps _ _ _ tt) ▸ unrecorded tt);
+          ((node .ensures .wraps refl _ _ _ tt) ▸ unrecorded tt);
     }
 
 pub interface-spec : {M : Type 1} → statement M

@@ -1,5 +1,6 @@
 -- `interface_inheritance_spec` reads rule 10 in a frame of its own.
 -- Its calls are put together as its plan is. Assumes nothing.
+use Rattle.grammar.specs.Idl.{idl}
 use Rattle.prediction.specs.Check.{table}
 use Rattle.prediction.specs.Columns.{plan-at, round}
 use Rattle.prediction.specs.IdlPlans.{idl-prediction}
@@ -9,6 +10,7 @@ use Rattle.readers_core.proofs.Lines.{_▸▸_, append}
 use Rattle.readers_interfaces.proofs.Names.{interface-names}
 use Rattle.readers_core.proofs.Shapes.{leaves}
 use Rattle.readers_core.specs.Reading.{all-recorded, none-recorded}
+use mathlib.Core.Path.{refl}
 use borrow.Author.Needs.{needs}
 use Rattle.readers_interfaces.proofs.interface_inheritance_spec.Statement.{statement}
 use Rattle.readers_interfaces.proofs.interface_inheritance_spec.Tie as tie
@@ -23,7 +25,7 @@ returns c =
       at-any =
           λ d. frame 10 ((take .ensures .reads _ _ .in-any _ _) ▸
           ((scoped-names .ensures .by-rule) 11 interface-names .at-any d .in-any _ _ ▸▸
-          (node .ensures .wraps _ _ _ tt)));
+          (node .ensures .wraps refl _ _ _ tt)));
     }
 
 pub interface-inheritance-spec-spec : {M : Type 1} → statement M

@@ -1,9 +1,11 @@
 -- `scoped_names` reads names with commas between them, by any rule that is a scoped name alone: such a rule leaves no record.
 -- The part read so far as a continuation; what is left to read falls. Assumes nothing.
+use Rattle.grammar.specs.Idl.{idl}
 use Prim.Native.Nat.{ℕ}
 use Rattle.prediction.specs.Check.{table}
 use Rattle.prediction.specs.Columns.{plan-at, round}
 use Rattle.prediction.specs.IdlPlans.{idl-prediction}
+use Rattle.readers_core.specs.Course.{one}
 use Rattle.readers_core.proofs.Choosing.{Knows, among, except, is-over}
 use Rattle.readers_core.proofs.Repetition.{Far, falls, far-here, far-more, far-over, remaining, repeats}
 use Rattle.readers_core.proofs.Sequence.{_▸_}
@@ -19,7 +21,7 @@ use Rattle.readers_interfaces.proofs.scoped_names.Tie as tie
 abbrev Inv-loop : tie.InvT-loop
 Inv-loop tokens tree₀ s t₀ tree t =
     (length tree ≡ length tree₀) ×
-    ((n d start : ℕ) → Names n → Far tokens d start (further n) (t₀, tree₀) (t, tree))
+    ((n d start : ℕ) → Names n → Far one tokens d start (further n) (t₀, tree₀) (t, tree))
 
 abbrev μ-loop : tie.MeasureT-loop
 μ-loop tokens tree₀ s t₀ tree t = remaining tokens t
@@ -35,7 +37,7 @@ loop-less c =
     let if1 = c .before .before .before .before .before .if1 in
     let take = c .before .before .before .before .take in
     let scoped-name2 = c .before .before .scoped-name2 in
-    falls {d = 0} {start = (loop .t)} (among (68 ∷ [])) (next-kind .ensures) (if1 .taken) tt
+    falls {R = one} {d = 0} {start = (loop .t)} (among (68 ∷ [])) (next-kind .ensures) (if1 .taken) tt
     (λ hs. (take .ensures .reads _ _ .in-any _ _) ▸
     by-name interface-names ((scoped-name2 .ensures .at-any) 0) .in-any _ _)
 

@@ -1,5 +1,6 @@
 -- `base_type_spec` reads rule 46: a number type in a frame of its own, or a rule of one word, whose node is passed on.
 -- The kind ahead tells which. Assumes nothing.
+use Rattle.grammar.specs.Idl.{idl}
 use Rattle.prediction.specs.Check.{table}
 use Rattle.prediction.specs.Columns.{plan-at, round}
 use Rattle.prediction.specs.IdlPlans.{idl-prediction}
@@ -34,7 +35,7 @@ returns-2 c =
     let word = c .before .before .word in
     record {
       at-any = λ d. passed-on 46 (among (25 ∷ [])) (next-kind .ensures) (match-on .keys2) refl tt
-          ((word .ensures .reads) refl .at-any d);
+          ((word .ensures .reads) refl refl .at-any d);
     }
 
 returns-3 : tie.Need-returns-3
@@ -45,7 +46,7 @@ returns-3 c =
     let word2 = c .before .before .word2 in
     record {
       at-any = λ d. passed-on 46 (among (62 ∷ [])) (next-kind .ensures) (match-on .keys3) refl tt
-          ((word2 .ensures .reads) refl .at-any d);
+          ((word2 .ensures .reads) refl refl .at-any d);
     }
 
 returns-4 : tie.Need-returns-4
@@ -56,7 +57,7 @@ returns-4 c =
     let word3 = c .before .before .word3 in
     record {
       at-any = λ d. passed-on 46 (among (23 ∷ [])) (next-kind .ensures) (match-on .keys4) refl tt
-          ((word3 .ensures .reads) refl .at-any d);
+          ((word3 .ensures .reads) refl refl .at-any d);
     }
 
 returns-5 : tie.Need-returns-5
@@ -67,7 +68,7 @@ returns-5 c =
     let word4 = c .before .before .word4 in
     record {
       at-any = λ d. passed-on 46 (among (43 ∷ [])) (next-kind .ensures) (match-on .keys5) refl tt
-          ((word4 .ensures .reads) refl .at-any d);
+          ((word4 .ensures .reads) refl refl .at-any d);
     }
 
 returns-6 : tie.Need-returns-6
@@ -78,7 +79,7 @@ returns-6 c =
     let word5 = c .before .before .word5 in
     record {
       at-any = λ d. passed-on 46 (among (21 ∷ [])) (next-kind .ensures) (match-on .keys6) refl tt
-          ((word5 .ensures .reads) refl .at-any d);
+          ((word5 .ensures .reads) refl refl .at-any d);
     }
 
 returns-7 : tie.Need-returns-7
@@ -89,7 +90,7 @@ returns-7 c =
     let word6 = c .before .before .word6 in
     record {
       at-any = λ d. passed-on 46 (among (17 ∷ [])) (next-kind .ensures) (match-on .keys7) refl tt
-          ((word6 .ensures .reads) refl .at-any d);
+          ((word6 .ensures .reads) refl refl .at-any d);
     }
 
 returns-8 : tie.Need-returns-8
@@ -102,7 +103,7 @@ returns-8 c =
       at-any =
           λ d. passed-on 46
           (except ((17 ∷ []) ∷ (21 ∷ []) ∷ (43 ∷ []) ∷ (23 ∷ []) ∷ (62 ∷ []) ∷ (25 ∷ []) ∷ (30 ∷ 35 ∷ 40 ∷ 51 ∷ 59 ∷ [])
-          ∷ [])) (next-kind .ensures) (match-on .rest) refl tt ((word7 .ensures .reads) refl .at-any d);
+          ∷ [])) (next-kind .ensures) (match-on .rest) refl tt ((word7 .ensures .reads) refl refl .at-any d);
     }
 
 pub base-type-spec-spec : {M : Type 1} → statement M

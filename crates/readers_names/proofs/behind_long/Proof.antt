@@ -5,6 +5,7 @@ use Rattle.readers_core.proofs.Frames.{chosen}
 use Rattle.readers_core.proofs.Sequence.{_▸_}
 use Rattle.readers_core.proofs.Shapes.{leaves}
 use Rattle.readers_core.specs.Reading.{all-recorded, none-recorded}
+use mathlib.Core.Path.{refl}
 use borrow.Author.Needs.{needs}
 use mathlib.Core.List.{[], _∷_}
 use Rattle.readers_names.proofs.behind_long.Statement.{statement}
@@ -20,7 +21,7 @@ returns c =
     record {
       at-any =
           λ d. chosen (among (40 ∷ [])) (next-kind .ensures) (match-on .keys1)
-          ((take .ensures .reads _ _ .in-any _ _) ▸ (node .ensures .wraps _ _ _ tt));
+          ((take .ensures .reads _ _ .in-any _ _) ▸ (node .ensures .wraps refl _ _ _ tt));
     }
 
 returns-2 : tie.Need-returns-2
@@ -31,7 +32,7 @@ returns-2 c =
     let node2 = c .before .before .node2 in
     record {
       at-any = λ d. chosen (except ((40 ∷ []) ∷ [])) (next-kind .ensures) (match-on .rest)
-          (node2 .ensures .wraps _ _ _ tt);
+          (node2 .ensures .wraps refl _ _ _ tt);
     }
 
 pub behind-long-spec : {M : Type 1} → statement M

@@ -5,6 +5,7 @@ use Rattle.readers_core.proofs.Frames.{chosen}
 use Rattle.readers_core.proofs.Sequence.{_▸_}
 use Rattle.readers_core.proofs.Shapes.{leaves}
 use Rattle.readers_core.specs.Reading.{all-recorded, none-recorded}
+use mathlib.Core.Path.{refl}
 use borrow.Author.Needs.{needs}
 use mathlib.Core.List.{[], _∷_}
 use Rattle.readers_names.proofs.behind_unsigned.Statement.{statement}
@@ -20,7 +21,7 @@ returns c =
     record {
       at-any = λ d. record {
         of-any = λ hs. chosen (among (51 ∷ [])) (next-kind .ensures) (if1 .taken)
-            ((take .ensures .reads _ _ .in-any _ _) ▸ (node .ensures .wraps _ _ _ tt));
+            ((take .ensures .reads _ _ .in-any _ _) ▸ (node .ensures .wraps refl _ _ _ tt));
       };
     }
 
@@ -38,7 +39,7 @@ returns-2 c =
       at-any = λ d. record {
         of-any = λ hs. chosen (except ((51 ∷ []) ∷ [])) (next-kind .ensures) (tt, (if1 .left))
             ((take2 .ensures .reads _ _ .in-any _ _) ▸ chosen (among (40 ∷ [])) (next-kind2 .ensures) (if2 .taken)
-            ((take3 .ensures .reads _ _ .in-any _ _) ▸ (node2 .ensures .wraps _ _ _ tt)));
+            ((take3 .ensures .reads _ _ .in-any _ _) ▸ (node2 .ensures .wraps refl _ _ _ tt)));
       };
     }
 
@@ -55,7 +56,7 @@ returns-3 c =
       at-any = λ d. record {
         of-any = λ hs. chosen (except ((51 ∷ []) ∷ [])) (next-kind .ensures) (tt, (if1 .left))
             ((take2 .ensures .reads _ _ .in-any _ _) ▸ chosen (except ((40 ∷ []) ∷ [])) (next-kind2 .ensures)
-            (tt, (if2 .left)) (node3 .ensures .wraps _ _ _ tt));
+            (tt, (if2 .left)) (node3 .ensures .wraps refl _ _ _ tt));
       };
     }
 

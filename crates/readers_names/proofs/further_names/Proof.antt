@@ -6,6 +6,7 @@ use Rattle.readers_core.proofs.Repetition.{Far, falls, far-here, far-more, far-
 use Rattle.readers_core.proofs.Sequence.{_▸_}
 use Rattle.readers_names.specs.Plans.{further-name}
 use Rattle.readers_core.proofs.Shapes.{leaves}
+use Rattle.readers_core.specs.Course.{one}
 use Rattle.readers_core.specs.Reading.{all-recorded, none-recorded}
 use borrow.Author.Needs.{needs}
 use lib.ListN.{length}
@@ -16,7 +17,7 @@ use Rattle.readers_names.proofs.further_names.Tie as tie
 
 abbrev Inv-loop : tie.InvT-loop
 Inv-loop tokens tree₀ start s t₀ tree t =
-    (length tree ≡ length tree₀) × ((d : ℕ) → Far tokens d start further-name (s, tree₀) (t, tree))
+    (length tree ≡ length tree₀) × ((d : ℕ) → Far one tokens d start further-name (s, tree₀) (t, tree))
 
 abbrev μ-loop : tie.MeasureT-loop
 μ-loop tokens tree₀ start s t₀ tree t = remaining tokens t
@@ -33,8 +34,8 @@ loop-less c =
     let take = c .before .before .before .before .before .take in
     let take2 = c .before .before .before .before .take2 in
     let node = c .before .before .node in
-    falls {d = 0} (among (69 ∷ [])) (next-kind .ensures) (if1 .taken) tt
-    (λ hs. ((take .ensures .reads _ _ .in-any _ _) ▸ (take2 .ensures .reads _ _ .in-any _ _)) ▸ (node .ensures .wraps _ _ _ tt))
+    falls {R = one} {d = 0} (among (69 ∷ [])) (next-kind .ensures) (if1 .taken) tt
+    (λ hs. ((take .ensures .reads _ _ .in-any _ _) ▸ (take2 .ensures .reads _ _ .in-any _ _)) ▸ (node .ensures .wraps refl _ _ _ tt))
 
 loop-again : tie.Need-loop-again Inv-loop μ-loop
 unfolding Knows repeats is-over leaves all-recorded none-recorded
@@ -47,7 +48,7 @@ loop-again c =
     let node = c .before .before .node in (
       (node .kept .0) ∙ (loop .inv .0),
       λ d. far-more (among (69 ∷ [])) (next-kind .ensures) (if1 .taken) tt
-          (λ hs. ((take .ensures .reads _ _ .in-any _ _) ▸ (take2 .ensures .reads _ _ .in-any _ _)) ▸ (node .ensures .wraps _ _ _ tt))
+          (λ hs. ((take .ensures .reads _ _ .in-any _ _) ▸ (take2 .ensures .reads _ _ .in-any _ _)) ▸ (node .ensures .wraps refl _ _ _ tt))
           ((loop .inv .1) d),
     )
 

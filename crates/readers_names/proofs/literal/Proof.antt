@@ -1,15 +1,16 @@
 -- `literal` reads rule 39: one token or a string literal in a frame of its own, or a boolean literal, whose node is passed on.
 -- A choice takes the token that is there, strings by their kind; else the last alternative is read. Assumes nothing.
+use Rattle.grammar.specs.Idl.{idl}
 use Prim.Native.Nat.{ℕ}
 use Rattle.prediction.specs.Check.{table}
 use Rattle.prediction.specs.Columns.{plan-at, round}
 use Rattle.prediction.specs.IdlPlans.{idl-prediction}
 use Rattle.prediction.specs.Plan.{Plan, call, seq, wrap}
-use Rattle.prediction.proofs.IdlChecked.{idl-table}
 use Rattle.readers_core.proofs.Choosing.{AnyOf, Knows, among, any-row, choose, except, none-row, one-of, row}
 use Rattle.readers_core.proofs.Frames.{frame, frame-on, passed-on, taken-of}
 use Rattle.readers_core.proofs.Sequence.{_▸_}
 use Rattle.readers_core.proofs.Shapes.{leaves}
+use Rattle.readers_core.specs.Course.{one, table-in}
 use Rattle.readers_core.specs.Reading.{From, Reads, ahead, all-recorded, none-recorded}
 use Rattle.readers_names.specs.Plans.{string-literal}
 use borrow.Author.Needs.{needs}
@@ -32,18 +33,18 @@ returns c =
       at-any =
           λ d. frame 39 (taken-of (among (row 2 5)) (next-kind .ensures)
           (any-row 2 4 (next-kind .result) (if1 .left) (omega (arith, (if2 .taken)))) tt
-          ((take .ensures .reads _ _ .in-any _ _) ▸ (node .ensures .wraps _ _ _ tt)));
+          ((take .ensures .reads _ _ .in-any _ _) ▸ (node .ensures .wraps refl _ _ _ tt)));
     }
 
 -- strings of kind k, where the rule takes them
 strings : {ks : List ℕ} {d x s u : ℕ} {w w′ : List ℕ} (k : ℕ) → x ≡ ahead ks s → x ≡ k →
-    choose idl-table (among (k ∷ [])) (idl-table .plan 39) ≡ seq (string-literal k) (wrap 39) →
-    From ks d s (0 ∷ []) (seq (string-literal x) (wrap 39)) (s, w) (u, w′) → Reads ks d (call 39) (s, w) (u, w′)
+    choose (table-in one) (among (k ∷ [])) ((table-in one) .plan 39) ≡ seq (string-literal k) (wrap 39) →
+    From one ks d s (0 ∷ []) (seq (string-literal x) (wrap 39)) (s, w) (u, w′) → Reads one ks d (call 39) (s, w) (u, w′)
 unfolding Knows
 strings {ks} {d} {x} {s} {u} {w} {w′} k e h p y =
     frame-on 39 (among (k ∷ [])) e h
-    (subst (λ (q : Plan). From ks d s (0 ∷ []) q (s, w) (u, w′)) (sym p)
-    (subst (λ (n : ℕ). From ks d s (0 ∷ []) (seq (string-literal n) (wrap 39)) (s, w) (u, w′)) h y))
+    (subst (λ (q : Plan). From one ks d s (0 ∷ []) q (s, w) (u, w′)) (sym p)
+    (subst (λ (n : ℕ). From one ks d s (0 ∷ []) (seq (string-literal n) (wrap 39)) (s, w) (u, w′)) h y))
 
 returns-2 : tie.Need-returns-2
 unfolding table round plan-at idl-prediction choose AnyOf row leaves all-recorded none-recorded
@@ -55,7 +56,7 @@ returns-2 c =
     let node = c .before .before .node2 in
     record {
       at-any =
-          λ d. let read = (literal .ensures .reads _ _ .in-any _ _) ▸ (node .ensures .wraps _ _ _ tt) in
+          λ d. let read = (literal .ensures .reads _ _ .in-any _ _) ▸ (node .ensures .wraps refl _ _ _ tt) in
           ⊎-elim (λ e. strings 7 (next-kind .ensures) e refl read) (λ e. strings 8 (next-kind .ensures) e refl read)
           (any-row 7 1 (next-kind .result) (if2 .left) (omega (arith, (if3 .taken))));
     }

@@ -6,6 +6,7 @@ use Rattle.readers_core.proofs.Sequence.{_▸_, unrecorded}
 use Rattle.readers_names.specs.Plans.{behind-long}
 use Rattle.readers_core.proofs.Shapes.{leaves}
 use Rattle.readers_core.specs.Reading.{all-recorded, none-recorded}
+use mathlib.Core.Path.{refl}
 use borrow.Author.Needs.{needs}
 use mathlib.Core.List.{[], _∷_}
 use Rattle.readers_names.proofs.long_number.Statement.{statement}
@@ -21,7 +22,7 @@ returns c =
     record {
       at-any =
           λ d. chosen (among (30 ∷ [])) (next-kind .ensures) (match-on .keys1)
-          ((take .ensures .reads _ _ .in-any _ _) ▸ (node .ensures .wraps _ _ _ tt));
+          ((take .ensures .reads _ _ .in-any _ _) ▸ (node .ensures .wraps refl _ _ _ tt));
     }
 
 returns-2 : tie.Need-returns-2

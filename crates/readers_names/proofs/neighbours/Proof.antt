@@ -1,5 +1,6 @@
 -- `neighbours` reads tokens of one kind as long as one stands ahead.
 -- The part read so far as a continuation; what is left to read falls. Assumes nothing.
+use Rattle.readers_core.specs.Course.{Course, one, table-in}
 use Prim.Native.Nat.{ℕ}
 use Rattle.prediction.specs.Plan.{token}
 use Rattle.readers_core.proofs.Choosing.{Knows, among, except}
@@ -10,13 +11,13 @@ use Rattle.readers_names.proofs.neighbours.Statement.{statement}
 use Rattle.readers_names.proofs.neighbours.Tie as tie
 
 abbrev Inv-loop : tie.InvT-loop
-Inv-loop tokens s kind t₀ t = (d : ℕ) (w : List ℕ) (start : ℕ) → Far tokens d start (token kind) (s, w) (t, w)
+Inv-loop tokens s kind t₀ t = (R : Course) (d : ℕ) (w : List ℕ) (start : ℕ) → Far R tokens d start (token kind) (s, w) (t, w)
 
 abbrev μ-loop : tie.MeasureT-loop
 μ-loop tokens s kind t₀ t = remaining tokens t
 
 loop-holds : tie.Need-loop-holds Inv-loop μ-loop
-loop-holds c = λ d w start. far-here
+loop-holds c = λ R d w start. far-here
 
 loop-less : tie.Need-loop-less Inv-loop μ-loop
 unfolding Knows
@@ -26,8 +27,8 @@ loop-less c =
     let loop = c .before .before .before .loop in
     let next-kind = c .before .before .next-kind in
     let if1 = c .before .if1 in
-    falls {start = (loop .t)} (among ((args .kind) ∷ [])) (next-kind .ensures) (if1 .taken)
-    (kind-again (args .kind) (pre .1)) (λ hs. (c .take .ensures .reads) 0 [] .in-any _ _)
+    falls {R = one} {start = (loop .t)} (among ((args .kind) ∷ [])) (next-kind .ensures) (if1 .taken)
+    (kind-again (table-in one) (args .kind) (pre .1)) (λ hs. (c .take .ensures .reads) 0 [] .in-any _ _)
 
 loop-again : tie.Need-loop-again Inv-loop μ-loop
 unfolding Knows
@@ -37,8 +38,8 @@ loop-again c =
     let loop = c .before .before .before .loop in
     let next-kind = c .before .before .next-kind in
     let if1 = c .before .if1 in
-    λ d w start. far-more (among ((args .kind) ∷ [])) (next-kind .ensures) (if1 .taken)
-    (kind-again (args .kind) (pre .1)) (λ hs. c .take .ensures .reads _ _ .in-any _ _) ((loop .inv) d w start)
+    λ R d w start. far-more (among ((args .kind) ∷ [])) (next-kind .ensures) (if1 .taken)
+    (kind-again (table-in R) (args .kind) (pre .1)) (λ hs. c .take .ensures .reads _ _ .in-any _ _) ((loop .inv) R d w start)
 
 returns : tie.Need-returns Inv-loop μ-loop
 unfolding Knows
@@ -48,9 +49,9 @@ returns c =
     let next-kind = c .before .next-kind in
     record {
       reads =
-          λ d w. record {
+          λ {R} d w. record {
             in-any = λ start hs. far-over (except (((args .kind) ∷ []) ∷ [])) (next-kind .ensures) (tt, (c .if1 .left))
-                (kind-over (args .kind)) ((loop .inv) d w start) hs;
+                (kind-over (table-in R) (args .kind)) ((loop .inv) R d w start) hs;
           };
     }
 

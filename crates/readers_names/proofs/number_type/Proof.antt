@@ -1,5 +1,6 @@
 -- `number_type` reads by its plan: the kind ahead tells the choice.
 -- What the plan comes to is what was called. Assumes nothing.
+use Rattle.grammar.specs.Idl.{idl}
 use Rattle.prediction.specs.Check.{table}
 use Rattle.prediction.specs.Columns.{plan-at, round}
 use Rattle.prediction.specs.IdlPlans.{idl-prediction}
@@ -9,6 +10,7 @@ use Rattle.readers_core.proofs.Sequence.{_▸_, unrecorded}
 use Rattle.readers_names.specs.Plans.{long-number}
 use Rattle.readers_core.proofs.Shapes.{leaves}
 use Rattle.readers_core.specs.Reading.{all-recorded, none-recorded}
+use mathlib.Core.Path.{refl}
 use borrow.Author.Needs.{needs}
 use mathlib.Core.List.{[], _∷_}
 use Rattle.readers_names.proofs.number_type.Statement.{statement}
@@ -37,7 +39,7 @@ returns-2 c =
     record {
       at-any =
           λ d. chosen (among (35 ∷ [])) (next-kind .ensures) (match-on .keys2)
-          ((take2 .ensures .reads _ _ .in-any _ _) ▸ (node .ensures .wraps _ _ _ tt));
+          ((take2 .ensures .reads _ _ .in-any _ _) ▸ (node .ensures .wraps refl _ _ _ tt));
     }
 
 returns-3 : tie.Need-returns-3
@@ -50,7 +52,7 @@ returns-3 c =
     record {
       at-any =
           λ d. chosen (among (30 ∷ [])) (next-kind .ensures) (match-on .keys3)
-          ((take3 .ensures .reads _ _ .in-any _ _) ▸ (node2 .ensures .wraps _ _ _ tt));
+          ((take3 .ensures .reads _ _ .in-any _ _) ▸ (node2 .ensures .wraps refl _ _ _ tt));
     }
 
 returns-4 : tie.Need-returns-4

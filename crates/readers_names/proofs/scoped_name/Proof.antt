@@ -1,5 +1,6 @@
 -- `scoped_name` reads rule 12: a frame of its own with its first name as a node, and a node for each further step.
 -- Its calls are put together as its plan is. Assumes nothing.
+use Rattle.grammar.specs.Idl.{idl}
 use Rattle.prediction.specs.Check.{table}
 use Rattle.prediction.specs.Columns.{plan-at, round}
 use Rattle.prediction.specs.IdlPlans.{idl-prediction}
@@ -7,6 +8,7 @@ use Rattle.readers_core.proofs.Frames.{frame}
 use Rattle.readers_core.proofs.Sequence.{_▸_}
 use Rattle.readers_core.proofs.Shapes.{leaves}
 use Rattle.readers_core.specs.Reading.{all-recorded, none-recorded}
+use mathlib.Core.Path.{refl}
 use borrow.Author.Needs.{needs}
 use Rattle.readers_names.proofs.scoped_name.Statement.{statement}
 use Rattle.readers_names.proofs.scoped_name.Tie as tie
@@ -19,7 +21,7 @@ returns c =
     let further-names = c .before .before .further-names in
     record {
       at-any = λ d. frame 12
-          ((first-name .ensures .reads _ _ .in-any _ _) ▸ (node .ensures .wraps _ _ _ tt) ▸
+          ((first-name .ensures .reads _ _ .in-any _ _) ▸ (node .ensures .wraps refl _ _ _ tt) ▸
           (further-names .ensures .at-any _ .of-any _));
     }
 

@@ -3,6 +3,7 @@
 use Rattle.readers_core.proofs.Sequence.{_▸_, unrecorded}
 use Rattle.readers_core.proofs.Shapes.{leaves}
 use Rattle.readers_core.specs.Reading.{all-recorded, none-recorded}
+use mathlib.Core.Path.{refl}
 use borrow.Author.Needs.{needs}
 use Rattle.readers_names.proofs.short_number.Statement.{statement}
 use Rattle.readers_names.proofs.short_number.Tie as tie
@@ -14,7 +15,7 @@ returns c =
     let node = c .before .before .node in
     record {
       at-any = λ d. record {
-        of-any = λ hs. (take .ensures .reads _ _ .in-any _ _) ▸ (node .ensures .wraps _ _ _ tt) ▸
+        of-any = λ hs. (take .ensures .reads _ _ .in-any _ _) ▸ (node .ensures .wraps refl _ _ _ tt) ▸
             unrecorded tt ▸ unrecorded tt;
       };
     }

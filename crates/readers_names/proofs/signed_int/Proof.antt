@@ -1,5 +1,6 @@
 -- `signed_int` reads rule 55 in a frame of its own: the kind ahead tells the choice.
 -- Its calls are put together as its plan is. Assumes nothing.
+use Rattle.grammar.specs.Idl.{idl}
 use Rattle.prediction.specs.Check.{table}
 use Rattle.prediction.specs.Columns.{plan-at, round}
 use Rattle.prediction.specs.IdlPlans.{idl-prediction}
@@ -9,6 +10,7 @@ use Rattle.readers_core.proofs.Sequence.{_▸_, unrecorded}
 use Rattle.readers_names.specs.Plans.{behind-long}
 use Rattle.readers_core.proofs.Shapes.{leaves}
 use Rattle.readers_core.specs.Reading.{all-recorded, none-recorded}
+use mathlib.Core.Path.{refl}
 use borrow.Author.Needs.{needs}
 use mathlib.Core.List.{[], _∷_}
 use Rattle.readers_names.proofs.signed_int.Statement.{statement}
@@ -24,7 +26,7 @@ returns c =
     record {
       at-any =
           λ d. frame 55 (chosen (among (51 ∷ [])) (next-kind .ensures) (match-on .keys1)
-          (((take .ensures .reads _ _ .in-any _ _) ▸ (node .ensures .wraps _ _ _ tt)) ▸ unrecorded tt));
+          (((take .ensures .reads _ _ .in-any _ _) ▸ (node .ensures .wraps refl _ _ _ tt)) ▸ unrecorded tt));
     }
 
 returns-2 : tie.Need-returns-2

@@ -4,6 +4,7 @@ use Rattle.readers_core.proofs.Frames.{frame-by}
 use Rattle.readers_core.proofs.Sequence.{_▸_}
 use Rattle.readers_core.proofs.Shapes.{leaves}
 use Rattle.readers_core.specs.Reading.{all-recorded, none-recorded}
+use mathlib.Core.Path.{refl}
 use borrow.Author.Needs.{needs}
 use Rattle.readers_names.proofs.word.Statement.{statement}
 use Rattle.readers_names.proofs.word.Tie as tie
@@ -11,14 +12,13 @@ use Rattle.readers_names.proofs.word.Tie as tie
 returns : tie.Need-returns
 unfolding leaves all-recorded none-recorded
 returns c =
-    let args = c .before .before .before .before .before .before .before .args in
     let take = c .before .before .before .before .take in
     let node = c .before .before .node in
     record {
       reads =
-          λ q. record {
+          λ e q. record {
             at-any =
-                λ d. frame-by (args .rule) q ((take .ensures .reads _ _ .in-any _ _) ▸ (node .ensures .wraps _ _ _ tt));
+                λ d. frame-by _ q ((take .ensures .reads _ _ .in-any _ _) ▸ (node .ensures .wraps e _ _ _ tt));
           };
     }
 

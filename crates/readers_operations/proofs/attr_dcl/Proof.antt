@@ -1,5 +1,6 @@
 -- `attr_dcl` reads rule 85 in a frame of its own.
 -- Its calls are put together as its plan is. Assumes nothing.
+use Rattle.grammar.specs.Idl.{idl}
 use Rattle.prediction.specs.Check.{table}
 use Rattle.prediction.specs.Columns.{plan-at, round}
 use Rattle.prediction.specs.IdlPlans.{idl-prediction}
@@ -29,8 +30,8 @@ returns c =
     let further = c .before .before .before .before .before .before .further in
     let node = c .before .before .node in
     frame 85 ((readonly .ensures .reads _ _ .in-any _ _) ▸ (take .ensures .reads _ _ .in-any _ _) ▸
-    (param-type-spec .ensures .in-any _ _) ▸ ((word .ensures .reads) refl .at-any _ .in-any _ _) ▸
-    (further .ensures .in-any _ _) ▸ (node .ensures .wraps _ _ _ tt))
+    (param-type-spec .ensures .in-any _ _) ▸ ((word .ensures .reads) refl refl .at-any _ .in-any _ _) ▸
+    (further .ensures .in-any _ _) ▸ (node .ensures .wraps refl _ _ _ tt))
 
 pub attr-dcl-spec : {M : Type 1} → statement M
 attr-dcl-spec =

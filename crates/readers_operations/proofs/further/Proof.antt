@@ -1,6 +1,7 @@
 -- `further` reads the rest of a list while a comma stands ahead.
 -- The part read so far as a continuation; what is left to read falls. Assumes nothing.
 use Rattle.prediction.specs.Plan.{call, seq, token}
+use Rattle.readers_core.specs.Course.{one}
 use Rattle.readers_core.proofs.Choosing.{Knows, among, except, is-over}
 use Rattle.readers_core.proofs.Repetition.{Far, falls, far-here, far-more, far-over, remaining, repeats}
 use Rattle.readers_core.proofs.Sequence.{_▸_}
@@ -15,7 +16,7 @@ use Rattle.readers_operations.proofs.further.Tie as tie
 abbrev Inv-loop : tie.InvT-loop
 Inv-loop tokens tree₀ s depth rule t₀ tree t =
     (length tree ≡ length tree₀) ×
-    ((start : ℕ) → Far tokens depth start (seq (token 68) (call rule)) (s, tree₀) (t, tree))
+    ((start : ℕ) → Far one tokens depth start (seq (token 68) (call rule)) (s, tree₀) (t, tree))
 
 abbrev μ-loop : tie.MeasureT-loop
 μ-loop tokens tree₀ s depth rule t₀ tree t = remaining tokens t
@@ -31,7 +32,7 @@ loop-less c =
     let if1 = c .before .before .before .before .before .if1 in
     let take = c .before .before .before .before .take in
     let item = c .before .before .item in
-    falls {start = (loop .t)} (among (68 ∷ [])) (next-kind .ensures) (if1 .taken) tt
+    falls {R = one} {start = (loop .t)} (among (68 ∷ [])) (next-kind .ensures) (if1 .taken) tt
     (λ hs. (take .ensures .reads _ _ .in-any _ _) ▸ (item .ensures .in-any _ _))
 
 loop-again : tie.Need-loop-again Inv-loop μ-loop

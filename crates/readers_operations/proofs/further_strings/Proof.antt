@@ -2,6 +2,7 @@
 -- The part read so far as a continuation; what is left to read falls. Assumes nothing.
 use Prim.Native.Nat.{ℕ}
 use Rattle.prediction.specs.Plan.{seq, token}
+use Rattle.readers_core.specs.Course.{Course, one}
 use Rattle.readers_core.proofs.Choosing.{Knows, among, except, is-over}
 use Rattle.readers_core.proofs.Repetition.{Far, falls, far-here, far-more, far-over, remaining, repeats}
 use Rattle.readers_core.proofs.Sequence.{_▸_}
@@ -12,14 +13,14 @@ use Rattle.readers_operations.proofs.further_strings.Statement.{stateme
 use Rattle.readers_operations.proofs.further_strings.Tie as tie
 
 abbrev Inv-loop : tie.InvT-loop
-Inv-loop tokens s t₀ t = (d : ℕ) (w : List ℕ) (start : ℕ) → Far tokens d start (seq (token 68) (string-literal 7)) (s, w)
-    (t, w)
+Inv-loop tokens s t₀ t =
+    (R : Course) (d : ℕ) (w : List ℕ) (start : ℕ) → Far R tokens d start (seq (token 68) (string-literal 7)) (s, w) (t, w)
 
 abbrev μ-loop : tie.MeasureT-loop
 μ-loop tokens s t₀ t = remaining tokens t
 
 loop-holds : tie.Need-loop-holds Inv-loop μ-loop
-loop-holds c = λ d w start. far-here
+loop-holds c = λ R d w start. far-here
 
 loop-less : tie.Need-loop-less Inv-loop μ-loop
 unfolding Knows repeats is-over
@@ -28,7 +29,7 @@ loop-less c =
     let next-kind = c .before .before .before .next-kind in
     let if1 = c .before .before .if1 in
     let take = c .before .take in
-    falls {start = (loop .t)} (among (68 ∷ [])) (next-kind .ensures) (if1 .taken) tt
+    falls {R = one} {start = (loop .t)} (among (68 ∷ [])) (next-kind .ensures) (if1 .taken) tt
     (λ hs. ((take .ensures .reads) 0 [] .in-any _ _) ▸ ((c .string-literal .ensures .reads) 0 [] .in-any _ _))
 
 loop-again : tie.Need-loop-again Inv-loop μ-loop
@@ -38,8 +39,8 @@ loop-again c =
     let next-kind = c .before .before .before .next-kind in
     let if1 = c .before .before .if1 in
     let take = c .before .take in
-    λ d w start. far-more (among (68 ∷ [])) (next-kind .ensures) (if1 .taken) tt
-    (λ hs. (take .ensures .reads _ _ .in-any _ _) ▸ (c .string-literal .ensures .reads _ _ .in-any _ _)) ((loop .inv) d w start)
+    λ R d w start. far-more (among (68 ∷ [])) (next-kind .ensures) (if1 .taken) tt
+    (λ hs. (take .ensures .reads _ _ .in-any _ _) ▸ (c .string-literal .ensures .reads _ _ .in-any _ _)) ((loop .inv) R d w start)
 
 returns : tie.Need-returns Inv-loop μ-loop
 unfolding Knows repeats is-over
@@ -48,9 +49,9 @@ returns c =
     let next-kind = c .before .next-kind in
     record {
       reads =
-          λ d w. record {
+          λ {R} d w. record {
             in-any = λ start hs. far-over (except ((68 ∷ []) ∷ [])) (next-kind .ensures) (tt, (c .if1 .left)) tt
-                ((loop .inv) d w start) hs;
+                ((loop .inv) R d w start) hs;
           };
     }
 

@@ -1,5 +1,6 @@
 -- `item` reads the rule that it is asked for.
 -- One of three rules, by its number. Assumes nothing.
+use Rattle.grammar.specs.Idl.{idl}
 use Rattle.prediction.specs.Check.{table}
 use Rattle.prediction.specs.Columns.{plan-at, round}
 use Rattle.prediction.specs.IdlPlans.{idl-prediction}
@@ -21,7 +22,7 @@ unfolding table round plan-at idl-prediction
 returns-2 c =
     let match-on = c .before .before .before .before .match in
     let word = c .before .before .word in
-    rw (match-on .keys2) ((word .ensures .reads) refl .at-any _)
+    rw (match-on .keys2) ((word .ensures .reads) refl refl .at-any _)
 
 returns-3 : tie.Need-returns-3
 unfolding table round plan-at idl-prediction

@@ -1,5 +1,6 @@
 -- `oneway` reads rule 88, or nothing.
 -- The kind ahead tells which. Assumes nothing.
+use Rattle.grammar.specs.Idl.{idl}
 use Rattle.prediction.specs.Check.{table}
 use Rattle.prediction.specs.Columns.{plan-at, round}
 use Rattle.prediction.specs.IdlPlans.{idl-prediction}
@@ -22,7 +23,7 @@ returns c =
       at-any =
           λ d. record {
             in-any = λ start hs. chosen (among (44 ∷ [])) (next-kind .ensures) (if1 .taken)
-                ((word .ensures .reads) refl .at-any d .in-any start hs);
+                ((word .ensures .reads) refl refl .at-any d .in-any start hs);
           };
     }
 

@@ -1,5 +1,6 @@
 -- `op_dcl` reads rule 87 in a frame of its own.
 -- Its calls are put together as its plan is. Assumes nothing.
+use Rattle.grammar.specs.Idl.{idl}
 use Rattle.prediction.specs.Check.{table}
 use Rattle.prediction.specs.Columns.{plan-at, round}
 use Rattle.prediction.specs.IdlPlans.{idl-prediction}
@@ -8,7 +9,7 @@ use Rattle.readers_core.proofs.Sequence.{_▸_}
 use Rattle.readers_core.proofs.Shapes.{leaves}
 use Rattle.readers_core.specs.Reading.{all-recorded, none-recorded}
 use borrow.Author.Needs.{needs}
-use mathlib.Core.Path.{_∙_}
+use mathlib.Core.Path.{_∙_, refl}
 use Rattle.readers_operations.proofs.op_dcl.Statement.{statement}
 use Rattle.readers_operations.proofs.op_dcl.Tie as tie
 
@@ -54,7 +55,7 @@ returns c =
     let node = c .before .before .node in
     frame 87 ((oneway .ensures .at-any _ .in-any _ _) ▸ (op-type-spec .ensures .in-any _ _) ▸
     (take .ensures .reads _ _ .in-any _ _) ▸ (parameter-dcls .ensures .in-any _ _) ▸ (raises .ensures .in-any _ _) ▸
-    (context .ensures .in-any _ _) ▸ (node .ensures .wraps _ _ _ tt))
+    (context .ensures .in-any _ _) ▸ (node .ensures .wraps refl _ _ _ tt))
 
 pub op-dcl-spec : {M : Type 1} → statement M
 op-dcl-spec =

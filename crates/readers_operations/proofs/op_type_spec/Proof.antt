@@ -1,5 +1,6 @@
 -- `op_type_spec` reads rule 89: "void" in a frame of its own, or a type, whose node is passed on.
 -- The kind ahead tells which. Assumes nothing.
+use Rattle.grammar.specs.Idl.{idl}
 use Rattle.prediction.specs.Check.{table}
 use Rattle.prediction.specs.Columns.{plan-at, round}
 use Rattle.prediction.specs.IdlPlans.{idl-prediction}
@@ -22,7 +23,7 @@ returns c =
     let take = c .before .before .before .before .take in
     let node = c .before .before .node in
     frame-on 89 (among (61 ∷ [])) (next-kind .ensures) (if1 .taken)
-    ((take .ensures .reads _ _ .in-any _ _) ▸ (node .ensures .wraps _ _ _ tt))
+    ((take .ensures .reads _ _ .in-any _ _) ▸ (node .ensures .wraps refl _ _ _ tt))
 
 returns-2 : tie.Need-returns-2
 unfolding table round plan-at idl-prediction choose Knows leaves all-recorded none-recorded

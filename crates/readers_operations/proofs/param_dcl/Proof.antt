@@ -1,5 +1,6 @@
 -- `param_dcl` reads rule 91 in a frame of its own.
 -- Its calls are put together as its plan is. Assumes nothing.
+use Rattle.grammar.specs.Idl.{idl}
 use Rattle.prediction.specs.Check.{table}
 use Rattle.prediction.specs.Columns.{plan-at, round}
 use Rattle.prediction.specs.IdlPlans.{idl-prediction}
@@ -22,7 +23,7 @@ returns c =
     let word = c .before .before .before .before .before .before .word in
     let node = c .before .before .node in
     frame 91 ((param-attribute .ensures .at-any _ .in-any _ _) ▸ (param-type-spec .ensures .in-any _ _) ▸
-    ((word .ensures .reads) refl .at-any _ .in-any _ _) ▸ (node .ensures .wraps _ _ _ tt))
+    ((word .ensures .reads) refl refl .at-any _ .in-any _ _) ▸ (node .ensures .wraps refl _ _ _ tt))
 
 pub param-dcl-spec : {M : Type 1} → statement M
 param-dcl-spec =

@@ -1,5 +1,6 @@
 -- `raises` reads rule 93 in a frame of its own, or nothing.
 -- The kind ahead tells which. Assumes nothing.
+use Rattle.grammar.specs.Idl.{idl}
 use Rattle.prediction.specs.Check.{table}
 use Rattle.prediction.specs.Columns.{plan-at, round}
 use Rattle.prediction.specs.IdlPlans.{idl-prediction}
@@ -8,6 +9,7 @@ use Rattle.readers_core.proofs.Frames.{chosen, frame}
 use Rattle.readers_core.proofs.Sequence.{_▸_, skipped}
 use Rattle.readers_core.proofs.Shapes.{leaves}
 use Rattle.readers_core.specs.Reading.{all-recorded, none-recorded}
+use mathlib.Core.Path.{refl}
 use borrow.Author.Needs.{needs}
 use mathlib.Core.List.{[], _∷_}
 use Rattle.readers_operations.proofs.raises.Statement.{statement}
@@ -24,7 +26,7 @@ returns c =
     record {
       in-any = λ start hs. chosen (among (48 ∷ [])) (next-kind .ensures) (if1 .taken)
           (frame 93 ((take .ensures .reads _ _ .in-any _ _) ▸ (exceptions .ensures .in-any _ _) ▸
-          (node .ensures .wraps _ _ _ tt)) .in-any start hs);
+          (node .ensures .wraps refl _ _ _ tt)) .in-any start hs);
     }
 
 returns-2 : tie.Need-returns-2

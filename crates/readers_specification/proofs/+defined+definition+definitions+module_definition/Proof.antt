@@ -1,5 +1,6 @@
 -- The readers of definitions and modules, which call each other, meet their contracts: each reads its rule as its plan is.
 -- The remaining depth falls at the "{" of a module; below it stand definitions, a definition, what is defined. Assumes nothing.
+use Rattle.grammar.specs.Idl.{idl}
 use Rattle.prediction.specs.Check.{table}
 use Rattle.prediction.specs.Columns.{plan-at, round}
 use Rattle.prediction.specs.IdlPlans.{idl-prediction}
@@ -12,6 +13,7 @@ use Rattle.readers_core.proofs.Sequence.{_▸_, stays}
 use Rattle.readers_specification.specs.Plans.{definition-starts}
 use Rattle.readers_structs.proofs.Starts.{is-in, is-out}
 use Rattle.readers_core.proofs.Shapes.{leaves}
+use Rattle.readers_core.specs.Course.{one}
 use Rattle.readers_core.specs.Reading.{all-recorded, none-recorded}
 use Rattle.readers_core.proofs.Views.{going-if, stopped-if}
 use borrow.Author.Needs.{needs}
@@ -141,7 +143,7 @@ definition-returns t c =
     let defined = c .before .before .before .before .before .before .before .defined in
     let take = c .before .before .before .before .take in
     let node = c .before .before .node in
-    frame 2 ((defined .ensures .of-any _) ▸ (take .ensures .reads _ _ .in-any _ _) ▸ (node .ensures .wraps _ _ _ tt))
+    frame 2 ((defined .ensures .of-any _) ▸ (take .ensures .reads _ _ .in-any _ _) ▸ (node .ensures .wraps refl _ _ _ tt))
 
 -- as long as a definition may begin
 abbrev definitions-claims : ℕ → definitions-lts.Claims
@@ -161,7 +163,7 @@ unnot false e = ap (λ (y : Bool). not y) e
 
 abbrev definitions-Inv-loop : definitions-lts.InvT-loop
 definitions-Inv-loop tokens tree₀ s d t₀ tree t =
-    (length tree ≡ length tree₀) × ((start : ℕ) → Begun tokens d start (call 2) (s, tree₀) (t, tree))
+    (length tree ≡ length tree₀) × ((start : ℕ) → Begun one tokens d start (call 2) (s, tree₀) (t, tree))
 
 abbrev definitions-μ-loop : definitions-lts.MeasureT-loop
 definitions-μ-loop tokens tree₀ s d t₀ tree t = remaining tokens t
@@ -271,7 +273,7 @@ module-definition-returns-2 t c =
     let node = c .before .before .node in
     frame 3 ((take .ensures .reads _ _ .in-any _ _) ▸ (take2 .ensures .reads _ _ .in-any _ _) ▸ grouped (opening .ensures)
     (going-if (opening .result) (has-stopped .ensures) (if1 .left))
-    ((definitions .ensures .in-any _ _) ▸ (take3 .ensures .reads _ _ .in-any _ _)) ▸ (node .ensures .wraps _ _ _ tt))
+    ((definitions .ensures .in-any _ _) ▸ (take3 .ensures .reads _ _ .in-any _ _)) ▸ (node .ensures .wraps refl _ _ _ tt))
 
 pub +defined+definition+definitions+module-definition-spec : {M : Type 1} → statement M
 +defined+definition+definitions+module-definition-spec =

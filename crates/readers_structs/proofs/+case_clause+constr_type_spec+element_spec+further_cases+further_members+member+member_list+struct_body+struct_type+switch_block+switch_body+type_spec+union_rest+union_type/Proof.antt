@@ -1,5 +1,6 @@
 -- Types hold members that hold types: type, struct, member and union readers call each other, each by its plan.
 -- Remaining depth falls at each opening mark, and else the measure by the reader's rank. Assumes nothing.
+use Rattle.grammar.specs.Idl.{idl}
 use Rattle.prediction.specs.Check.{table}
 use Rattle.prediction.specs.Columns.{plan-at, round}
 use Rattle.prediction.specs.IdlPlans.{idl-prediction}
@@ -13,6 +14,7 @@ use Rattle.readers_structs.proofs.Starts.{is-in, is-out}
 use Rattle.readers_structs.specs.Plans.{case-starts, type-starts}
 use Rattle.readers_core.proofs.Views.{going-if, stopped-if}
 use Rattle.readers_core.proofs.Shapes.{leaves}
+use Rattle.readers_core.specs.Course.{one}
 use Rattle.readers_core.specs.Reading.{all-recorded, none-recorded}
 use borrow.Author.Needs.{needs}
 use lib.ListN.{length}
@@ -215,14 +217,14 @@ union-type-below t = and 2 union-type-kinds.ps (falls 2 union-type-kinds.ps _<_ 
 
 abbrev further-cases-Inv-loop : further-cases-lts.InvT-loop
 further-cases-Inv-loop tokens tree₀ s depth t₀ tree t =
-    (length tree ≡ length tree₀) × ((start : ℕ) → Far tokens depth start (call 75) (s, tree₀) (t, tree))
+    (length tree ≡ length tree₀) × ((start : ℕ) → Far one tokens depth start (call 75) (s, tree₀) (t, tree))
 
 abbrev further-cases-μ-loop : further-cases-lts.MeasureT-loop
 further-cases-μ-loop tokens tree₀ s depth t₀ tree t = remaining tokens t
 
 abbrev further-members-Inv-loop : further-members-lts.InvT-loop
 further-members-Inv-loop tokens tree₀ s depth t₀ tree t =
-    (length tree ≡ length tree₀) × ((start : ℕ) → Far tokens depth start (call 71) (s, tree₀) (t, tree))
+    (length tree ≡ length tree₀) × ((start : ℕ) → Far one tokens depth start (call 71) (s, tree₀) (t, tree))
 
 abbrev further-members-μ-loop : further-members-lts.MeasureT-loop
 further-members-μ-loop tokens tree₀ s depth t₀ tree t = remaining tokens t
@@ -262,7 +264,7 @@ unfolding table round plan-at idl-prediction choose Knows repeats is-over leaves
     let take = c .before .before .before .before .take in
     let node = c .before .before .node in
     frame 75 ((case-label .ensures .in-any _ _) ▸ (further-labels .ensures .in-any _ _) ▸ (element-spec .ensures .in-any _ _)
-    ▸ (take .ensures .reads _ _ .in-any _ _) ▸ (node .ensures .wraps _ _ _ tt))))
+    ▸ (take .ensures .reads _ _ .in-any _ _) ▸ (node .ensures .wraps refl _ _ _ tt))))
     (λ t. constr-type-spec-lts.spec (
       next-kind-reads.Asked,
       next-kind-reads.Learnt,
@@ -320,7 +322,7 @@ unfolding table round plan-at idl-prediction choose Knows repeats is-over leaves
     let type-spec = c .before .before .before .before .before .before .before .before .before .before .type-spec in
     let declarator = c .before .before .before .before .before .before .declarator in
     let node = c .before .before .node in
-    frame 77 ((type-spec .ensures .in-any _ _) ▸ (declarator .ensures .in-any _ _) ▸ (node .ensures .wraps _ _ _ tt))))
+    frame 77 ((type-spec .ensures .in-any _ _) ▸ (declarator .ensures .in-any _ _) ▸ (node .ensures .wraps refl _ _ _ tt))))
     (λ t. further-cases-lts.spec (
       next-kind-reads.Asked,
       next-kind-reads.Learnt,
@@ -345,7 +347,7 @@ unfolding table round plan-at idl-prediction choose Knows repeats is-over leaves
     let starts-case = c .before .before .before .before .before .starts-case in
     let if1 = c .before .before .before .before .if1 in
     let case-clause = c .before .before .case-clause in
-    turn-falls {start = (loop .t)} (among case-starts) (next-kind .ensures)
+    turn-falls {R = one} {start = (loop .t)} (among case-starts) (next-kind .ensures)
     (is-in case-starts (next-kind .result) (starts-case .ensures) (if1 .taken)) tt
     (λ hs. case-clause .ensures .in-any _ hs))
     (λ c.
@@ -392,7 +394,7 @@ unfolding table round plan-at idl-prediction choose Knows repeats is-over leaves
     let starts-type = c .before .before .before .before .before .starts-type in
     let if1 = c .before .before .before .before .if1 in
     let member = c .before .before .member in
-    turn-falls {start = (loop .t)} (among type-starts) (next-kind .ensures)
+    turn-falls {R = one} {start = (loop .t)} (among type-starts) (next-kind .ensures)
     (is-in type-starts (next-kind .result) (starts-type .ensures) (if1 .taken)) tt (λ hs. member .ensures .in-any _ hs))
     (λ c.
     let loop = c .before .before .before .before .before .before .before .loop in
@@ -439,7 +441,7 @@ unfolding table round plan-at idl-prediction choose Knows repeats is-over leaves
     let take = c .before .before .before .before .take in
     let node = c .before .before .node in
     frame 71 ((type-spec .ensures .in-any _ _) ▸ (declarators .ensures .in-any _ _) ▸ (take .ensures .reads _ _ .in-any _ _) ▸
-    (node .ensures .wraps _ _ _ tt))))
+    (node .ensures .wraps refl _ _ _ tt))))
     (λ t. member-list-lts.spec (
       member-below t,
       member.Post,
@@ -475,7 +477,7 @@ unfolding table round plan-at idl-prediction choose Knows repeats is-over leaves
     chosen (among type-starts) (next-kind .ensures)
     (is-in type-starts (next-kind .result) (starts-type .ensures) (if1 .taken))
     (once-at-least (among type-starts) (next-kind .ensures) (is-in type-starts (next-kind .result) (starts-type .ensures) (if1 .taken)) tt (further-members .ensures .in-any _ _) ▸
-    (node .ensures .wraps _ _ _ tt))))
+    (node .ensures .wraps refl _ _ _ tt))))
     (λ c. search needs)
     (λ c.
     let member = c .before .before .before .before .before .member in
@@ -545,7 +547,7 @@ unfolding table round plan-at idl-prediction choose Knows repeats is-over leaves
     let struct-body = c .before .before .before .before .before .before .struct-body in
     let node = c .before .before .node in
     frame 69 ((take .ensures .reads _ _ .in-any _ _) ▸ (take2 .ensures .reads _ _ .in-any _ _) ▸
-    (struct-body .ensures .in-any _ _) ▸ (node .ensures .wraps _ _ _ tt))))
+    (struct-body .ensures .in-any _ _) ▸ (node .ensures .wraps refl _ _ _ tt))))
     (λ t. switch-block-lts.spec (
       open-reads.Asked,
       open-reads.Learnt,
@@ -620,7 +622,7 @@ unfolding table round plan-at idl-prediction choose Knows repeats is-over leaves
     chosen (among case-starts) (next-kind .ensures)
     (is-in case-starts (next-kind .result) (starts-case .ensures) (if1 .taken))
     (once-at-least (among case-starts) (next-kind .ensures) (is-in case-starts (next-kind .result) (starts-case .ensures) (if1 .taken)) tt (further-cases .ensures .in-any _ _) ▸
-    (node .ensures .wraps _ _ _ tt))))
+    (node .ensures .wraps refl _ _ _ tt))))
     (λ c. search needs)
     (λ c.
     let case-clause = c .before .before .before .before .before .case-clause in
@@ -683,7 +685,7 @@ unfolding table round plan-at idl-prediction choose Knows repeats is-over leaves
     let node = c .before .before .node in
     record {
       of-any = λ hs. (take .ensures .reads _ _ .in-any _ _) ▸ (switch-head .ensures .in-any _ _) ▸
-          (switch-block .ensures .in-any _ _) ▸ (node .ensures .wraps _ _ _ tt);
+          (switch-block .ensures .in-any _ _) ▸ (node .ensures .wraps refl _ _ _ tt);
     }))
     (λ t. union-type-lts.spec (
       take-reads.Asked,

@@ -1,9 +1,11 @@
 -- `further_labels` reads labels while one stands ahead.
 -- The part read so far as a continuation; what is left to read falls. Assumes nothing.
+use Rattle.grammar.specs.Idl.{idl}
 use Rattle.prediction.specs.Check.{table}
 use Rattle.prediction.specs.Columns.{plan-at, round}
 use Rattle.prediction.specs.IdlPlans.{idl-prediction}
 use Rattle.prediction.specs.Plan.{call}
+use Rattle.readers_core.specs.Course.{one}
 use Rattle.readers_core.proofs.Choosing.{Knows, among, except, is-over}
 use Rattle.readers_core.proofs.Repetition.{Far, falls, far-here, far-more, far-over, remaining, repeats}
 use Prim.Native.Nat.{ℕ}
@@ -18,7 +20,7 @@ use Rattle.readers_structs.proofs.further_labels.Tie as tie
 
 abbrev Inv-loop : tie.InvT-loop
 Inv-loop tokens tree₀ s depth t₀ tree t =
-    (length tree ≡ length tree₀) × ((start : ℕ) → Far tokens depth start (call 76) (s, tree₀) (t, tree))
+    (length tree ≡ length tree₀) × ((start : ℕ) → Far one tokens depth start (call 76) (s, tree₀) (t, tree))
 
 abbrev μ-loop : tie.MeasureT-loop
 μ-loop tokens tree₀ s depth t₀ tree t = remaining tokens t
@@ -34,7 +36,7 @@ loop-less c =
     let starts-case = c .before .before .before .before .before .starts-case in
     let if1 = c .before .before .before .before .if1 in
     let case-label = c .before .before .case-label in
-    falls {start = (loop .t)} (among case-starts) (next-kind .ensures)
+    falls {R = one} {start = (loop .t)} (among case-starts) (next-kind .ensures)
     (is-in case-starts (next-kind .result) (starts-case .ensures) (if1 .taken)) tt
     (λ hs. case-label .ensures .in-any _ hs)
 

@@ -1,5 +1,6 @@
 -- `struct_dcl` reads by its plan: an opening brace tells a declaration.
 -- Its calls are put together as its plan is. Assumes nothing.
+use Rattle.grammar.specs.Idl.{idl}
 use Rattle.prediction.specs.Check.{table}
 use Rattle.prediction.specs.Columns.{plan-at, round}
 use Rattle.prediction.specs.IdlPlans.{idl-prediction}
@@ -8,6 +9,7 @@ use Rattle.readers_core.proofs.Frames.{chosen}
 use Rattle.readers_core.proofs.Sequence.{_▸_}
 use Rattle.readers_core.proofs.Shapes.{leaves}
 use Rattle.readers_core.specs.Reading.{all-recorded, none-recorded}
+use mathlib.Core.Path.{refl}
 use borrow.Author.Needs.{needs}
 use mathlib.Core.List.{[], _∷_}
 use Rattle.readers_structs.proofs.struct_dcl.Statement.{statement}
@@ -25,7 +27,7 @@ returns c =
     record {
       of-any = λ hs. (take .ensures .reads _ _ .in-any _ _) ▸ (take2 .ensures .reads _ _ .in-any _ _) ▸
           chosen (among (65 ∷ [])) (next-kind .ensures) (if1 .taken)
-          ((struct-body .ensures .in-any _ _) ▸ (node .ensures .wraps _ _ _ tt));
+          ((struct-body .ensures .in-any _ _) ▸ (node .ensures .wraps refl _ _ _ tt));
     }
 
 returns-2 : tie.Need-returns-2
@@ -38,7 +40,7 @@ returns-2 c =
     let node2 = c .before .before .node2 in
     record {
       of-any = λ hs. (take .ensures .reads _ _ .in-any _ _) ▸ (take2 .ensures .reads _ _ .in-any _ _) ▸
-          chosen (except ((65 ∷ []) ∷ [])) (next-kind .ensures) (tt, (if1 .left)) (node2 .ensures .wraps _ _ _ tt);
+          chosen (except ((65 ∷ []) ∷ [])) (next-kind .ensures) (tt, (if1 .left)) (node2 .ensures .wraps refl _ _ _ tt);
     }
 
 pub struct-dcl-spec : {M : Type 1} → statement M

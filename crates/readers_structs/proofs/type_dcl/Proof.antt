@@ -1,5 +1,6 @@
 -- `type_dcl` reads rule 42: the kind ahead tells the choice.
 -- A typedef or native type has a record of its own; else the node of what is declared is passed on. Assumes nothing.
+use Rattle.grammar.specs.Idl.{idl}
 use Rattle.prediction.specs.Check.{table}
 use Rattle.prediction.specs.Columns.{plan-at, round}
 use Rattle.prediction.specs.IdlPlans.{idl-prediction}
@@ -24,7 +25,7 @@ returns c =
     let node = c .before .before .node in
     frame-on 42 (among (57 ∷ [])) (next-kind .ensures) (match-on .keys1)
     (((take .ensures .reads _ _ .in-any _ _) ▸ (type-declarator .ensures .in-any _ _)) ▸
-    (node .ensures .wraps _ _ _ tt))
+    (node .ensures .wraps refl _ _ _ tt))
 
 returns-2 : tie.Need-returns-2
 unfolding table round plan-at idl-prediction choose Knows leaves all-recorded none-recorded
@@ -61,8 +62,8 @@ returns-5 c =
     let word = c .before .before .before .before .before .before .word in
     let node2 = c .before .before .node2 in
     frame-on 42 (except ((31 ∷ []) ∷ (58 ∷ []) ∷ (53 ∷ []) ∷ (57 ∷ []) ∷ [])) (next-kind .ensures) (match-on .rest)
-    (((take2 .ensures .reads _ _ .in-any _ _) ▸ ((word .ensures .reads) refl .at-any _ .in-any _ _)) ▸
-    (node2 .ensures .wraps _ _ _ tt))
+    (((take2 .ensures .reads _ _ .in-any _ _) ▸ ((word .ensures .reads) refl refl .at-any _ .in-any _ _)) ▸
+    (node2 .ensures .wraps refl _ _ _ tt))
 
 pub type-dcl-spec : {M : Type 1} → statement M
 type-dcl-spec =

@@ -1,5 +1,6 @@
 -- `union_dcl` reads by its plan: "switch" tells a declaration.
 -- Its calls are put together as its plan is. Assumes nothing.
+use Rattle.grammar.specs.Idl.{idl}
 use Rattle.prediction.specs.Check.{table}
 use Rattle.prediction.specs.Columns.{plan-at, round}
 use Rattle.prediction.specs.IdlPlans.{idl-prediction}
@@ -8,6 +9,7 @@ use Rattle.readers_core.proofs.Frames.{chosen}
 use Rattle.readers_core.proofs.Sequence.{_▸_}
 use Rattle.readers_core.proofs.Shapes.{leaves}
 use Rattle.readers_core.specs.Reading.{all-recorded, none-recorded}
+use mathlib.Core.Path.{refl}
 use borrow.Author.Needs.{needs}
 use mathlib.Core.List.{[], _∷_}
 use Rattle.readers_structs.proofs.union_dcl.Statement.{statement}
@@ -36,7 +38,7 @@ returns-2 c =
     let node = c .before .before .node in
     record {
       of-any = λ hs. (take .ensures .reads _ _ .in-any _ _) ▸ (take2 .ensures .reads _ _ .in-any _ _) ▸
-          chosen (except ((55 ∷ []) ∷ [])) (next-kind .ensures) (tt, (if1 .left)) (node .ensures .wraps _ _ _ tt);
+          chosen (except ((55 ∷ []) ∷ [])) (next-kind .ensures) (tt, (if1 .left)) (node .ensures .wraps refl _ _ _ tt);
     }
 
 pub union-dcl-spec : {M : Type 1} → statement M

@@ -1,5 +1,6 @@
 -- A sequence holds a simple type, which may be a sequence: four readers that call each other, each by its plan.
 -- Remaining depth falls at the opening mark of a sequence, and else the measure by the reader's rank. Assumes nothing.
+use Rattle.grammar.specs.Idl.{idl}
 use Rattle.prediction.specs.Check.{table}
 use Rattle.prediction.specs.Columns.{plan-at, round}
 use Rattle.prediction.specs.IdlPlans.{idl-prediction}
@@ -161,7 +162,7 @@ unfolding table round plan-at idl-prediction choose Knows leaves all-recorded no
     let sequence-body = c .before .before .before .before .before .before .sequence-body in
     let node = c .before .before .node in
     frame 80 ((take .ensures .reads _ _ .in-any _ _) ▸ (sequence-body .ensures .in-any _ _) ▸
-    (node .ensures .wraps _ _ _ tt))))
+    (node .ensures .wraps refl _ _ _ tt))))
     (λ t. simple-type-spec-lts.spec (
       next-kind-reads.Asked,
       next-kind-reads.Learnt,

@@ -1,5 +1,6 @@
 -- `behind_name` reads by its plan: an opening bracket tells an array.
 -- What the plan comes to is what was called. Assumes nothing.
+use Rattle.grammar.specs.Idl.{idl}
 use Rattle.prediction.specs.Check.{table}
 use Rattle.prediction.specs.Columns.{plan-at, round}
 use Rattle.prediction.specs.IdlPlans.{idl-prediction}
@@ -8,6 +9,7 @@ use Rattle.readers_core.proofs.Frames.{chosen}
 use Rattle.readers_core.proofs.Sequence.{_▸_, unrecorded}
 use Rattle.readers_core.proofs.Shapes.{leaves}
 use Rattle.readers_core.specs.Reading.{all-recorded, none-recorded}
+use mathlib.Core.Path.{refl}
 use borrow.Author.Needs.{needs}
 use mathlib.Core.List.{[], _∷_}
 use Rattle.readers_types.proofs.behind_name.Statement.{statement}
@@ -24,7 +26,7 @@ returns c =
     let further-sizes = c .before .before .before .before .before .before .further-sizes in
     let node = c .before .before .node in
     chosen (among (75 ∷ [])) (next-kind .ensures) (if1 .taken)
-    ((fixed-array-size .ensures .in-any _ _) ▸ (further-sizes .ensures .in-any _ _) ▸ (node .ensures .wraps _ _ _ tt) ▸
+    ((fixed-array-size .ensures .in-any _ _) ▸ (further-sizes .ensures .in-any _ _) ▸ (node .ensures .wraps refl _ _ _ tt) ▸
     unrecorded tt)
 
 returns-2 : tie.Need-returns-2
@@ -33,7 +35,7 @@ returns-2 c =
     let next-kind = c .before .before .before .before .before .next-kind in
     let if1 = c .before .before .before .before .if1 in
     let node2 = c .before .before .node2 in
-    chosen (except ((75 ∷ []) ∷ [])) (next-kind .ensures) (tt, (if1 .left)) (node2 .ensures .wraps _ _ _ tt)
+    chosen (except ((75 ∷ []) ∷ [])) (next-kind .ensures) (tt, (if1 .left)) (node2 .ensures .wraps refl _ _ _ tt)
 
 pub behind-name-spec : {M : Type 1} → statement M
 behind-name-spec =

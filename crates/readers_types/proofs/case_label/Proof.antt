@@ -1,5 +1,6 @@
 -- `case_label` reads rule 76 in a frame of its own: the kind ahead tells the choice.
 -- Its calls are put together as its plan is. Assumes nothing.
+use Rattle.grammar.specs.Idl.{idl}
 use Rattle.prediction.specs.Check.{table}
 use Rattle.prediction.specs.Columns.{plan-at, round}
 use Rattle.prediction.specs.IdlPlans.{idl-prediction}
@@ -8,6 +9,7 @@ use Rattle.readers_core.proofs.Frames.{chosen, frame}
 use Rattle.readers_core.proofs.Sequence.{_▸_}
 use Rattle.readers_core.proofs.Shapes.{leaves}
 use Rattle.readers_core.specs.Reading.{all-recorded, none-recorded}
+use mathlib.Core.Path.{refl}
 use borrow.Author.Needs.{needs}
 use mathlib.Core.List.{[], _∷_}
 use Rattle.readers_types.proofs.case_label.Statement.{statement}
@@ -25,7 +27,7 @@ returns c =
     let node = c .before .before .node in
     frame 76 (chosen (among (24 ∷ [])) (next-kind .ensures) (if1 .taken)
     (((take .ensures .reads _ _ .in-any _ _) ▸ (const-exp .ensures .in-any _ _) ▸
-    (take2 .ensures .reads _ _ .in-any _ _)) ▸ (node .ensures .wraps _ _ _ tt)))
+    (take2 .ensures .reads _ _ .in-any _ _)) ▸ (node .ensures .wraps refl _ _ _ tt)))
 
 returns-2 : tie.Need-returns-2
 unfolding table round plan-at idl-prediction choose Knows leaves all-recorded none-recorded
@@ -37,7 +39,7 @@ returns-2 c =
     let node2 = c .before .before .node2 in
     frame 76 (chosen (except ((24 ∷ []) ∷ [])) (next-kind .ensures) (tt, (if1 .left))
     (((take3 .ensures .reads _ _ .in-any _ _) ▸ (take4 .ensures .reads _ _ .in-any _ _)) ▸
-    (node2 .ensures .wraps _ _ _ tt)))
+    (node2 .ensures .wraps refl _ _ _ tt)))
 
 pub case-label-spec : {M : Type 1} → statement M
 case-label-spec =

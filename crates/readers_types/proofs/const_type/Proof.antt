@@ -1,5 +1,6 @@
 -- `const_type` reads rule 28: a number type in a frame of its own, or another rule, whose node is passed on.
 -- The kind ahead tells which. Assumes nothing.
+use Rattle.grammar.specs.Idl.{idl}
 use Rattle.prediction.specs.Check.{table}
 use Rattle.prediction.specs.Columns.{plan-at, round}
 use Rattle.prediction.specs.IdlPlans.{idl-prediction}
@@ -30,7 +31,7 @@ returns-2 c =
     let match-on = c .before .before .before .before .match in
     let word = c .before .before .word in
     passed-on 28 (among (25 ∷ [])) (next-kind .ensures) (match-on .keys2) refl tt
-    ((word .ensures .reads) refl .at-any _)
+    ((word .ensures .reads) refl refl .at-any _)
 
 returns-3 : tie.Need-returns-3
 unfolding table round plan-at idl-prediction choose Knows leaves all-recorded none-recorded
@@ -39,7 +40,7 @@ returns-3 c =
     let match-on = c .before .before .before .before .match in
     let word2 = c .before .before .word2 in
     passed-on 28 (among (62 ∷ [])) (next-kind .ensures) (match-on .keys3) refl tt
-    ((word2 .ensures .reads) refl .at-any _)
+    ((word2 .ensures .reads) refl refl .at-any _)
 
 returns-4 : tie.Need-returns-4
 unfolding table round plan-at idl-prediction choose Knows leaves all-recorded none-recorded
@@ -48,7 +49,7 @@ returns-4 c =
     let match-on = c .before .before .before .before .match in
     let word3 = c .before .before .word3 in
     passed-on 28 (among (23 ∷ [])) (next-kind .ensures) (match-on .keys4) refl tt
-    ((word3 .ensures .reads) refl .at-any _)
+    ((word3 .ensures .reads) refl refl .at-any _)
 
 returns-5 : tie.Need-returns-5
 unfolding table round plan-at idl-prediction choose Knows leaves all-recorded none-recorded
@@ -73,7 +74,7 @@ returns-7 c =
     let match-on = c .before .before .before .before .match in
     let word4 = c .before .before .word4 in
     passed-on 28 (among (34 ∷ [])) (next-kind .ensures) (match-on .keys7) refl tt
-    ((word4 .ensures .reads) refl .at-any _)
+    ((word4 .ensures .reads) refl refl .at-any _)
 
 returns-8 : tie.Need-returns-8
 unfolding table round plan-at idl-prediction choose Knows leaves all-recorded none-recorded
@@ -82,7 +83,7 @@ returns-8 c =
     let match-on = c .before .before .before .before .match in
     let word5 = c .before .before .word5 in
     passed-on 28 (among (43 ∷ [])) (next-kind .ensures) (match-on .keys8) refl tt
-    ((word5 .ensures .reads) refl .at-any _)
+    ((word5 .ensures .reads) refl refl .at-any _)
 
 returns-9 : tie.Need-returns-9
 unfolding table round plan-at idl-prediction choose Knows leaves all-recorded none-recorded

@@ -1,5 +1,6 @@
 -- `declarators` reads rule 49 in a frame of its own: a comma tells that there are several, and else it has no record.
 -- Its calls are put together as its plan is. Assumes nothing.
+use Rattle.grammar.specs.Idl.{idl}
 use Rattle.prediction.specs.Check.{table}
 use Rattle.prediction.specs.Columns.{plan-at, round}
 use Rattle.prediction.specs.IdlPlans.{idl-prediction}
@@ -9,6 +10,7 @@ use Rattle.readers_core.proofs.Repetition.{once-at-least}
 use Rattle.readers_core.proofs.Sequence.{_▸_, skipped, unrecorded}
 use Rattle.readers_core.proofs.Shapes.{leaves}
 use Rattle.readers_core.specs.Reading.{all-recorded, none-recorded}
+use mathlib.Core.Path.{refl}
 use borrow.Author.Needs.{needs}
 use mathlib.Core.List.{[], _∷_}
 use Rattle.readers_types.proofs.declarators.Statement.{statement}
@@ -25,7 +27,7 @@ returns c =
     let node = c .before .before .node in
     frame 49 ((declarator .ensures .in-any _ _) ▸ chosen (among (68 ∷ [])) (next-kind .ensures) (if1 .taken)
     (once-at-least (among (68 ∷ [])) (next-kind .ensures) (if1 .taken) tt (further-declarators .ensures .in-any _ _) ▸
-    (node .ensures .wraps _ _ _ tt)))
+    (node .ensures .wraps refl _ _ _ tt)))
 
 returns-2 : tie.Need-returns-2
 unfolding table round plan-at idl-prediction choose Knows goes-on leaves all-recorded none-recorded

@@ -1,5 +1,6 @@
 -- `enumerators` reads enumerators at one level of depth less.
 -- The opening mark, and behind it the body and the closing mark. Assumes nothing.
+use Rattle.grammar.specs.Idl.{idl}
 use Rattle.prediction.specs.Check.{table}
 use Rattle.prediction.specs.Columns.{plan-at, round}
 use Rattle.prediction.specs.IdlPlans.{idl-prediction}
@@ -30,7 +31,7 @@ returns-2 c =
     let further-enumerators = c .before .before .before .further-enumerators in
     record {
       in-any = λ start hs. grouped (opening .ensures) (going-if (opening .result) (has-stopped .ensures) (if1 .left))
-          ((((word .ensures .reads) refl .at-any _ .in-any _ _) ▸
+          ((((word .ensures .reads) refl refl .at-any _ .in-any _ _) ▸
           (further-enumerators .ensures .at-any _ .in-any _ _)) ▸ (c .take .ensures .reads _ _ .in-any _ _));
     }
 

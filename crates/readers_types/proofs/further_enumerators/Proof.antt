@@ -1,10 +1,12 @@
 -- `further_enumerators` reads enumerators while a comma stands ahead.
 -- The part read so far as a continuation; what is left to read falls. Assumes nothing.
+use Rattle.grammar.specs.Idl.{idl}
 use Prim.Native.Nat.{ℕ}
 use Rattle.prediction.specs.Check.{table}
 use Rattle.prediction.specs.Columns.{plan-at, round}
 use Rattle.prediction.specs.IdlPlans.{idl-prediction}
 use Rattle.prediction.specs.Plan.{call, seq, token}
+use Rattle.readers_core.specs.Course.{one}
 use Rattle.readers_core.proofs.Choosing.{Knows, among, except, is-over}
 use Rattle.readers_core.proofs.Repetition.{Far, falls, far-here, far-more, far-over, remaining, repeats}
 use Rattle.readers_core.proofs.Sequence.{_▸_}
@@ -18,7 +20,7 @@ use Rattle.readers_types.proofs.further_enumerators.Tie as tie
 abbrev Inv-loop : tie.InvT-loop
 Inv-loop tokens tree₀ s t₀ tree t =
     (length tree ≡ length tree₀) ×
-    ((d : ℕ) (start : ℕ) → Far tokens d start (seq (token 68) (call 79)) (s, tree₀) (t, tree))
+    ((d : ℕ) (start : ℕ) → Far one tokens d start (seq (token 68) (call 79)) (s, tree₀) (t, tree))
 
 abbrev μ-loop : tie.MeasureT-loop
 μ-loop tokens tree₀ s t₀ tree t = remaining tokens t
@@ -34,8 +36,8 @@ loop-less c =
     let if1 = c .before .before .before .before .before .if1 in
     let take = c .before .before .before .before .take in
     let word = c .before .before .word in
-    falls {d = 0} {start = (loop .t)} (among (68 ∷ [])) (next-kind .ensures) (if1 .taken) tt
-    (λ hs. (take .ensures .reads _ _ .in-any _ _) ▸ ((word .ensures .reads) refl .at-any _ .in-any _ _))
+    falls {R = one} {d = 0} {start = (loop .t)} (among (68 ∷ [])) (next-kind .ensures) (if1 .taken) tt
+    (λ hs. (take .ensures .reads _ _ .in-any _ _) ▸ ((word .ensures .reads) refl refl .at-any _ .in-any _ _))
 
 loop-again : tie.Need-loop-again Inv-loop μ-loop
 unfolding table round plan-at idl-prediction Knows repeats is-over
@@ -47,7 +49,7 @@ loop-again c =
     let word = c .before .before .word in (
       (word .kept .1 .0) ∙ (loop .inv .0),
       λ d start. far-more (among (68 ∷ [])) (next-kind .ensures) (if1 .taken) tt
-          (λ hs. (take .ensures .reads _ _ .in-any _ _) ▸ ((word .ensures .reads) refl .at-any _ .in-any _ _))
+          (λ hs. (take .ensures .reads _ _ .in-any _ _) ▸ ((word .ensures .reads) refl refl .at-any _ .in-any _ _))
           ((loop .inv .1) d start),
     )
 

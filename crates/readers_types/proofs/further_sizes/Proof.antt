@@ -1,9 +1,11 @@
 -- `further_sizes` reads sizes while an opening bracket stands ahead.
 -- The part read so far as a continuation; what is left to read falls. Assumes nothing.
+use Rattle.grammar.specs.Idl.{idl}
 use Rattle.prediction.specs.Check.{table}
 use Rattle.prediction.specs.Columns.{plan-at, round}
 use Rattle.prediction.specs.IdlPlans.{idl-prediction}
 use Rattle.prediction.specs.Plan.{call}
+use Rattle.readers_core.specs.Course.{one}
 use Rattle.readers_core.proofs.Choosing.{Knows, among, except, is-over}
 use Rattle.readers_core.proofs.Repetition.{Far, falls, far-here, far-more, far-over, remaining, repeats}
 use Prim.Native.Nat.{ℕ}
@@ -16,7 +18,7 @@ use Rattle.readers_types.proofs.further_sizes.Tie as tie
 
 abbrev Inv-loop : tie.InvT-loop
 Inv-loop tokens tree₀ s depth t₀ tree t =
-    (length tree ≡ length tree₀) × ((start : ℕ) → Far tokens depth start (call 84) (s, tree₀) (t, tree))
+    (length tree ≡ length tree₀) × ((start : ℕ) → Far one tokens depth start (call 84) (s, tree₀) (t, tree))
 
 abbrev μ-loop : tie.MeasureT-loop
 μ-loop tokens tree₀ s depth t₀ tree t = remaining tokens t
@@ -31,7 +33,7 @@ loop-less c =
     let next-kind = c .before .before .before .before .before .next-kind in
     let if1 = c .before .before .before .before .if1 in
     let fixed-array-size = c .before .before .fixed-array-size in
-    falls {start = (loop .t)} (among (75 ∷ [])) (next-kind .ensures) (if1 .taken) tt
+    falls {R = one} {start = (loop .t)} (among (75 ∷ [])) (next-kind .ensures) (if1 .taken) tt
     (λ hs. fixed-array-size .ensures .in-any _ _)
 
 loop-again : tie.Need-loop-again Inv-loop μ-loop

@@ -5,6 +5,7 @@ use Rattle.readers_core.proofs.Frames.{chosen, frame-by}
 use Rattle.readers_core.proofs.Sequence.{_▸_, skipped}
 use Rattle.readers_core.proofs.Shapes.{leaves}
 use Rattle.readers_core.specs.Reading.{all-recorded, none-recorded}
+use mathlib.Core.Path.{refl}
 use borrow.Author.Needs.{needs}
 use mathlib.Core.List.{[], _∷_}
 use Rattle.readers_types.proofs.string_type.Statement.{statement}
@@ -24,7 +25,7 @@ returns c =
       reads =
           λ q. frame-by (args .rule) q ((take .ensures .reads _ _ .in-any _ _) ▸
           chosen (among (73 ∷ [])) (next-kind .ensures) (if1 .taken)
-          (enclosed .ensures .in-any _ _) ▸ (node .ensures .wraps _ _ _ tt));
+          (enclosed .ensures .in-any _ _) ▸ (node .ensures .wraps refl _ _ _ tt));
     }
 
 returns-2 : tie.Need-returns-2
@@ -39,7 +40,7 @@ returns-2 c =
       reads =
           λ q. frame-by (args .rule) q ((take .ensures .reads _ _ .in-any _ _) ▸
           chosen (except ((73 ∷ []) ∷ [])) (next-kind .ensures) (tt, (if1 .left))
-          skipped ▸ (node2 .ensures .wraps _ _ _ tt));
+          skipped ▸ (node2 .ensures .wraps refl _ _ _ tt));
     }
 
 pub string-type-spec : {M : Type 1} → statement M

@@ -1,5 +1,6 @@
 -- `switch_type_spec` reads rule 73, which passes another rule's node on.
 -- The kind ahead tells which. Assumes nothing.
+use Rattle.grammar.specs.Idl.{idl}
 use Rattle.prediction.specs.Check.{table}
 use Rattle.prediction.specs.Columns.{plan-at, round}
 use Rattle.prediction.specs.IdlPlans.{idl-prediction}
@@ -29,7 +30,7 @@ returns-2 c =
     let match-on = c .before .before .before .before .match in
     let word = c .before .before .word in
     passed-on 73 (among (25 ∷ [])) (next-kind .ensures) (match-on .keys2) refl tt
-    ((word .ensures .reads) refl .at-any _)
+    ((word .ensures .reads) refl refl .at-any _)
 
 returns-3 : tie.Need-returns-3
 unfolding table round plan-at idl-prediction choose Knows leaves all-recorded none-recorded
@@ -38,7 +39,7 @@ returns-3 c =
     let match-on = c .before .before .before .before .match in
     let word2 = c .before .before .word2 in
     passed-on 73 (among (23 ∷ [])) (next-kind .ensures) (match-on .keys3) refl tt
-    ((word2 .ensures .reads) refl .at-any _)
+    ((word2 .ensures .reads) refl refl .at-any _)
 
 returns-4 : tie.Need-returns-4
 unfolding table round plan-at idl-prediction choose Knows leaves all-recorded none-recorded

@@ -1,5 +1,6 @@
 -- `behind_name` reads by its plan: a type, ":" or "supports" or "{", or none of these behind the name.
 -- What the plan comes to is what was called. Assumes nothing.
+use Rattle.grammar.specs.Idl.{idl}
 use Rattle.prediction.specs.Check.{table}
 use Rattle.prediction.specs.Columns.{plan-at, round}
 use Rattle.prediction.specs.IdlPlans.{idl-prediction}
@@ -10,6 +11,7 @@ use Rattle.readers_structs.proofs.Starts.{is-in, is-out}
 use Rattle.readers_structs.specs.Plans.{type-starts}
 use Rattle.readers_core.proofs.Shapes.{leaves}
 use Rattle.readers_core.specs.Reading.{all-recorded, none-recorded}
+use mathlib.Core.Path.{refl}
 use borrow.Author.Needs.{needs}
 use mathlib.Core.List.{[], _∷_}
 use Rattle.readers_values.proofs.behind_name.Statement.{statement}
@@ -24,7 +26,7 @@ returns c =
     let type-spec = c .before .before .before .before .before .before .type-spec in
     let node = c .before .before .node in
     chosen (among type-starts) (next-kind .ensures) (is-in type-starts _ (starts-type .ensures) (if1 .taken))
-    ((type-spec .ensures .in-any _ _) ▸ (node .ensures .wraps _ _ _ tt))
+    ((type-spec .ensures .in-any _ _) ▸ (node .ensures .wraps refl _ _ _ tt))
 
 returns-2 : tie.Need-returns-2
 unfolding table round plan-at idl-prediction choose Knows leaves all-recorded none-recorded
@@ -43,7 +45,7 @@ returns-3 c =
     let match-on = c .before .before .before .before .match in
     let node2 = c .before .before .node2 in
     chosen (except ((54 ∷ 65 ∷ 67 ∷ []) ∷ type-starts ∷ [])) (next-kind .ensures)
-    (is-out type-starts _ (starts-type .ensures) (if1 .left), (match-on .rest .1)) (node2 .ensures .wraps _ _ _ tt)
+    (is-out type-starts _ (starts-type .ensures) (if1 .left), (match-on .rest .1)) (node2 .ensures .wraps refl _ _ _ tt)
 
 pub behind-name-spec : {M : Type 1} → statement M
 behind-name-spec =

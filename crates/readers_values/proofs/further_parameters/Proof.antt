@@ -1,8 +1,10 @@
 -- `further_parameters` reads further parameters: each turn is one more, and they end where no comma stands ahead.
 -- The part read so far as a continuation; what is left to read falls. Assumes nothing.
+use Rattle.grammar.specs.Idl.{idl}
 use Rattle.prediction.specs.Check.{table}
 use Rattle.prediction.specs.Columns.{plan-at, round}
 use Rattle.prediction.specs.IdlPlans.{idl-prediction}
+use Rattle.readers_core.specs.Course.{one}
 use Rattle.readers_core.proofs.Choosing.{Knows, among, except, is-over}
 use Rattle.readers_core.proofs.Repetition.{Far, falls, far-here, far-more, far-over, remaining, repeats}
 use Rattle.readers_core.proofs.Sequence.{_▸_}
@@ -17,7 +19,7 @@ use Rattle.readers_values.proofs.further_parameters.Tie as tie
 
 abbrev Inv-loop : tie.InvT-loop
 Inv-loop tokens tree₀ s d t₀ tree t =
-    (length tree ≡ length tree₀) × ((start : ℕ) → Far tokens d start (further 25) (s, tree₀) (t, tree))
+    (length tree ≡ length tree₀) × ((start : ℕ) → Far one tokens d start (further 25) (s, tree₀) (t, tree))
 
 abbrev μ-loop : tie.MeasureT-loop
 μ-loop tokens tree₀ s d t₀ tree t = remaining tokens t
@@ -33,7 +35,7 @@ loop-less c =
     let if1 = c .before .before .before .before .before .if1 in
     let take = c .before .before .before .before .take in
     let init-param-decl = c .before .before .init-param-decl in
-    falls {start = (loop .t)} (among (68 ∷ [])) (next-kind .ensures) (if1 .taken) tt
+    falls {R = one} {start = (loop .t)} (among (68 ∷ [])) (next-kind .ensures) (if1 .taken) tt
     (λ hs. (take .ensures .reads _ _ .in-any _ _) ▸ (init-param-decl .ensures .in-any _ _))
 
 loop-again : tie.Need-loop-again Inv-loop μ-loop

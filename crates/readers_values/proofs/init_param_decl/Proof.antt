@@ -1,5 +1,6 @@
 -- `init_param_decl` reads rule 25 in a frame of its own.
 -- Its calls are put together as its plan is. Assumes nothing.
+use Rattle.grammar.specs.Idl.{idl}
 use Rattle.prediction.specs.Check.{table}
 use Rattle.prediction.specs.Columns.{plan-at, round}
 use Rattle.prediction.specs.IdlPlans.{idl-prediction}
@@ -21,8 +22,8 @@ returns c =
     c .before .before .before .before .before .before .before .before .before .before .param-type-spec in
     let word2 = c .before .before .before .before .before .before .word2 in
     let node = c .before .before .node in
-    frame 25 ((word .ensures .reads) refl .at-any _ .in-any _ _ ▸ (param-type-spec .ensures .in-any _ _) ▸
-    (word2 .ensures .reads) refl .at-any _ .in-any _ _ ▸ (node .ensures .wraps _ _ _ tt))
+    frame 25 ((word .ensures .reads) refl refl .at-any _ .in-any _ _ ▸ (param-type-spec .ensures .in-any _ _) ▸
+    (word2 .ensures .reads) refl refl .at-any _ .in-any _ _ ▸ (node .ensures .wraps refl _ _ _ tt))
 
 pub init-param-decl-spec : {M : Type 1} → statement M
 init-param-decl-spec =

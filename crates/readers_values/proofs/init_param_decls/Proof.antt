@@ -1,5 +1,6 @@
 -- `init_param_decls` reads rule 24 in a frame of its own: a comma tells whether there are further parameters.
 -- With them the repetition reads one at least and the rule is recorded; without them it is not. Assumes nothing.
+use Rattle.grammar.specs.Idl.{idl}
 use Rattle.prediction.specs.Check.{table}
 use Rattle.prediction.specs.Columns.{plan-at, round}
 use Rattle.prediction.specs.IdlPlans.{idl-prediction}
@@ -9,6 +10,7 @@ use Rattle.readers_core.proofs.Repetition.{once-at-least}
 use Rattle.readers_core.proofs.Sequence.{_▸_, skipped, unrecorded}
 use Rattle.readers_core.proofs.Shapes.{leaves}
 use Rattle.readers_core.specs.Reading.{all-recorded, none-recorded}
+use mathlib.Core.Path.{refl}
 use borrow.Author.Needs.{needs}
 use mathlib.Core.List.{[], _∷_}
 use Rattle.readers_values.proofs.init_param_decls.Statement.{statement}
@@ -26,7 +28,7 @@ returns c =
     frame 24 ((init-param-decl .ensures .in-any _ _) ▸
     chosen (among (68 ∷ [])) (next-kind .ensures) (if1 .taken)
     (once-at-least (among (68 ∷ [])) (next-kind .ensures) (if1 .taken) tt (further-parameters .ensures .in-any _ _) ▸
-    (node .ensures .wraps _ _ _ tt)))
+    (node .ensures .wraps refl _ _ _ tt)))
 
 returns-2 : tie.Need-returns-2
 unfolding table round plan-at idl-prediction choose Knows leaves all-recorded none-recorded

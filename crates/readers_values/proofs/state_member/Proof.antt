@@ -1,5 +1,6 @@
 -- `state_member` reads rule 22 in a frame of its own.
 -- Its calls are put together as its plan is. Assumes nothing.
+use Rattle.grammar.specs.Idl.{idl}
 use Rattle.prediction.specs.Check.{table}
 use Rattle.prediction.specs.Columns.{plan-at, round}
 use Rattle.prediction.specs.IdlPlans.{idl-prediction}
@@ -7,6 +8,7 @@ use Rattle.readers_core.proofs.Frames.{frame}
 use Rattle.readers_core.proofs.Sequence.{_▸_}
 use Rattle.readers_core.proofs.Shapes.{leaves}
 use Rattle.readers_core.specs.Reading.{all-recorded, none-recorded}
+use mathlib.Core.Path.{refl}
 use borrow.Author.Needs.{needs}
 use Rattle.readers_values.proofs.state_member.Statement.{statement}
 use Rattle.readers_values.proofs.state_member.Tie as tie
@@ -22,7 +24,7 @@ returns c =
     let take = c .before .before .before .before .take in
     let node = c .before .before .node in
     frame 22 ((visibility .ensures .reads _ _ .in-any _ _) ▸ (type-spec .ensures .in-any _ _) ▸
-    (declarators .ensures .in-any _ _) ▸ (take .ensures .reads _ _ .in-any _ _) ▸ (node .ensures .wraps _ _ _ tt))
+    (declarators .ensures .in-any _ _) ▸ (take .ensures .reads _ _ .in-any _ _) ▸ (node .ensures .wraps refl _ _ _ tt))
 
 pub state-member-spec : {M : Type 1} → statement M
 state-member-spec =

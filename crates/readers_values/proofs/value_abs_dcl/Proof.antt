@@ -3,6 +3,7 @@
 use Rattle.readers_core.proofs.Sequence.{_▸_}
 use Rattle.readers_core.proofs.Shapes.{leaves}
 use Rattle.readers_core.specs.Reading.{all-recorded, none-recorded}
+use mathlib.Core.Path.{refl}
 use borrow.Author.Needs.{needs}
 use Rattle.readers_values.proofs.value_abs_dcl.Statement.{statement}
 use Rattle.readers_values.proofs.value_abs_dcl.Tie as tie
@@ -15,7 +16,7 @@ returns c =
     let node = c .before .before .node in
     record {
       of-any = λ hs. (bases .ensures .at-any _ .in-any _ _) ▸ (braced-exports .ensures .in-any _ _) ▸
-          (node .ensures .wraps _ _ _ tt);
+          (node .ensures .wraps refl _ _ _ tt);
     }
 
 pub value-abs-dcl-spec : {M : Type 1} → statement M

@@ -1,8 +1,10 @@
 -- `read_tree` meets its contract: a bad call is told by the test that fails, and a good one is judged as its reading concludes.
 -- The list that the readers are lent is the table up to the count. Assumes nothing.
+use Rattle.grammar.specs.Idl.{idl}
+use Rattle.readers_core.specs.Course.{one}
 use Rattle.tree.proofs.Answering.{answered, beyond, list-short, text-small, too-many, too-short}
 use borrow.Author.Needs.{needs}
-use mathlib.Core.Path.{sym}
+use mathlib.Core.Path.{refl, sym}
 use native.Mathlib.Omega.{arith}
 use lib.Seq.{length-take-le}
 use Rattle.tree.proofs.read_tree.Statement.{statement}
@@ -13,19 +15,19 @@ returns c =
     let at-new = c .before .before .before in
     let at-args = at-new .before .before .before in
     beyond (at-args .args .tokens .now) (at-args .args .count) (at-args .args .text) (at-args .args .tree .now)
-    (at-args .args .depth) (at-new .new .ensures) (c .before .enum-told2 .given .1) (c .outside-limits .ensures)
+    (at-args .args .depth) idl (at-new .new .ensures) (c .before .enum-told2 .given .1) (c .outside-limits .ensures)
 
 returns-2 : tie.Need-returns-2
 returns-2 c =
     let at-args = c .before .before .before .before .before .before .before in
     too-many (at-args .args .tokens .now) (at-args .args .count) (at-args .args .text)
-    (at-args .args .tree .now) (at-args .args .depth) (c .before .if1 .taken) (c .outside-limits2 .ensures)
+    (at-args .args .tree .now) (at-args .args .depth) idl (c .before .if1 .taken) (c .outside-limits2 .ensures)
 
 returns-3 : tie.Need-returns-3
 returns-3 c =
     let at-args = c .before .before .before .before .before .before .before .before in
     too-short (at-args .args .tokens .now) (at-args .args .count) (at-args .args .text)
-    (at-args .args .tree .now) (at-args .args .depth) (c .before .if2 .taken) (c .outside-limits3 .ensures)
+    (at-args .args .tree .now) (at-args .args .depth) idl (c .before .if2 .taken) (c .outside-limits3 .ensures)
 
 slice-aggregate-list : tie.Need-slice-aggregate-list
 slice-aggregate-list c = sym (length-take-le _ _ (omega arith))
@@ -68,6 +70,7 @@ cast-conclude-2 c =
     )
 
 returns-4 : tie.Need-returns-4
+unfolding idl
 returns-4 c =
     let at-conclude = c .before .before in
     let at-specification = at-conclude .before .before .before .before in
@@ -78,7 +81,7 @@ returns-4 c =
     let at-args = at-new .before .before .before in
     answered (at-args .args .tokens .now) (at-args .args .count) (at-args .args .text)
     (at-args .args .tree .now) (at-args .args .depth) (at-new .new .ensures) (at-enum-told .enum-told .given .1)
-    (at-if1 .if1 .left) (at-if2 .if2 .left) (at-specification .specification .kept .1 .0)
+    (at-if1 .if1 .left) (at-if2 .if2 .left) one (λ r. refl) (at-specification .specification .kept .1 .0)
     (at-specification .specification .ensures) (at-conclude .conclude .ensures .0)
     (at-conclude .conclude .ensures .1)
 
