@@ -1,18 +1,20 @@
--- Facts on the rules of edition 1: they are spelled right, each has its use, strings join, other readers' errors are not in them.
--- Computed, each as one test over the table.
-use Prim.Native.Nat.{ℕ, zero, suc}
+-- Facts on the rules of an edition: they are spelled right, each has its use, strings join, other readers' errors are not in them.
+-- Each is one test over the table of any edition; here they are computed for edition 1.
+use Prim.Native.Nat.{ℕ, zero, suc, _-_, pred}
 use Prim.Native.String.{String}
 use mathlib.Core.Path.{_≡_, refl}
 use mathlib.Core.Bool.{Bool, true, false, not, _&&_, _||_, cond}
 use mathlib.Core.List.{List, [], _∷_, _++_}
 use lib.Dec.{T, eqb, ltb}
-use Rattle.kinds.specs.Kinds.{kind-of}
+use lib.ListN.{length}
+use Rattle.kinds.specs.Kinds.{keywords, marks, kind-of}
 use Rattle.grammar.specs.Sets.{elem}
+use Rattle.grammar.proofs.Sets.{subset}
 use Rattle.grammar.specs.Forest.{Forest, end, leaf, node}
 use Rattle.grammar.specs.Rule.{RightSide, terminal, nonterminal, sequence, choice, nothing, repeat, Edition}
 use Rattle.grammar.specs.Rule.{right-side}
 use Rattle.grammar.specs.Notation.{Written, `_, <_>, _▸_, _∣_, ⟦_⟧, _*, _+, Rule, _::=_, token-names, names}
-use Rattle.grammar.specs.Notation.{place}
+use Rattle.grammar.specs.Notation.{place, places}
 use Rattle.grammar.specs.Idl.{published, idl}
 use Rattle.grammar.specs.Derivation.{kind-at}
 use Rattle.grammar.specs.Record.{tree-record, recorded, records}
@@ -20,24 +22,21 @@ use Rattle.grammar.specs.Depth.{depth}
 use Rattle.grammar.proofs.Nesting.{nests}
 
 -- each name is that of a token or a rule, and each terminal has a kind
-unfoldable pub spelled : Written → Bool
-unfolding place token-names names published kind-of
-spelled (` w) = ltb 0 (kind-of w)
-spelled (< w >) = ltb 0 (place w token-names) || ltb 0 (place w (names published))
-spelled (a ▸ b) = spelled a && spelled b
-spelled (a ∣ b) = spelled a && spelled b
-spelled (⟦ a ⟧) = spelled a
-spelled (a *) = spelled a
-spelled (a +) = spelled a
+module _ (kind : String → ℕ) (rules : List String) where
+  unfoldable pub spelled : Written → Bool
+  unfolding place token-names
+  spelled (` w) = ltb 0 (kind w)
+  spelled (< w >) = ltb 0 (place w token-names) || ltb 0 (place w rules)
+  spelled (a ▸ b) = spelled a && spelled b
+  spelled (a ∣ b) = spelled a && spelled b
+  spelled (⟦ a ⟧) = spelled a
+  spelled (a *) = spelled a
+  spelled (a +) = spelled a
 
 -- a test of the right side of each rule
 unfoldable pub each-side : (Written → Bool) → List Rule → Bool
 each-side f [] = true
 each-side f ((name ::= e) ∷ rs) = f e && each-side f rs
-
-pub spelled-right : T (each-side spelled published)
-unfolding each-side spelled published
-spelled-right = tt
 
 unfoldable pub is-name : Written → Bool
 is-name (` w) = false
@@ -58,10 +57,6 @@ joined (a ∣ b) = joined a && joined b
 joined (⟦ a ⟧) = joined a
 joined (a *) = joined a
 joined (a +) = is-name a || joined a
-
-pub strings-joined : T (each-side joined published)
-unfolding each-side joined published
-strings-joined = tt
 
 -- the kinds of the terminals of a right side, and the rules that it uses
 unfoldable pub kinds-in : RightSide → List ℕ
@@ -84,22 +79,35 @@ unfoldable pub gathered : (RightSide → List ℕ) → List RightSide → List �
 gathered f [] = []
 gathered f (e ∷ es) = f e ++ gathered f es
 
--- the n numbers from k on are all in the list
-unfoldable pub all-from : (k n : ℕ) → List ℕ → Bool
-unfolding elem
-all-from k zero xs = true
-all-from k (suc n) xs = elem k xs && all-from (suc k) n xs
+unfoldable pub kinds-of : (String → ℕ) → List String → List ℕ
+kinds-of kind [] = []
+kinds-of kind (w ∷ ws) = kind w ∷ kinds-of kind ws
 
--- "the 48 alphabetic terminals of 000", the 24 marks, identifiers and the seven literals: all stand in the rules
-pub each-kind-used : T (all-from 1 8 (gathered kinds-in (idl .rules)) && all-from 16 72
-    (gathered kinds-in (idl .rules)))
-unfolding all-from gathered kinds-in idl
-each-kind-used = tt
+-- the terminals are identifiers, the seven literals, these keywords and the 24 marks, and no others
+unfoldable pub terminals-are : (String → ℕ) → List String → Edition → Bool
+unfolding subset gathered kinds-in kinds-of places token-names marks
+terminals-are kind ws E =
+    let ks = places token-names token-names ++ kinds-of kind (ws ++ marks) in
+    let used = gathered kinds-in (E .rules) in
+    subset ks used && subset used ks
 
--- each rule but the first is used
-pub each-rule-used : T (all-from 2 98 (gathered rules-in (idl .rules)))
-unfolding all-from gathered rules-in idl
-each-rule-used = tt
+-- the number of the first rule, by which a text is read, and that of the last
+unfoldable pub numbered : Edition → ℕ × ℕ
+numbered E = (E .start, pred (length (E .rules)))
+
+-- the n numbers from k on that pass a test; the rules that do
+unfoldable pub chosen-from : (ℕ → Bool) → (k n : ℕ) → List ℕ
+chosen-from f k zero = []
+chosen-from f k (suc n) = cond (f k) (k ∷ chosen-from f (suc k) n) (chosen-from f (suc k) n)
+
+unfoldable pub chosen : (ℕ → Bool) → Edition → List ℕ
+unfolding chosen-from
+chosen f E = chosen-from f (E .start) (length (E .rules) - E .start)
+
+-- the rules that no rule uses
+unfoldable pub unused-rules : Edition → List ℕ
+unfolding chosen gathered rules-in elem
+unused-rules E = let used = gathered rules-in (E .rules) in chosen (λ r. not (elem r used)) E
 
 -- a right side may be empty, where the rules of r may be
 unfoldable pub may-be-empty : (r : ℕ → Bool) → RightSide → Bool
@@ -116,62 +124,82 @@ unfolding may-be-empty right-side
 empty-within E zero n = false
 empty-within E (suc k) n = may-be-empty (empty-within E k) (right-side E n)
 
-unfoldable pub chosen : (ℕ → Bool) → (k n : ℕ) → List ℕ
-chosen f k zero = []
-chosen f k (suc n) = cond (f k) (k ∷ chosen f (suc k) n) (chosen f (suc k) n)
+unfoldable pub empty-rules : Edition → List ℕ
+unfolding chosen empty-within
+empty-rules E = chosen (empty-within E 20) E
+
+-- the rules that are recorded over exactly one nonterminal
+unfoldable pub recorded-always : Edition → List ℕ
+unfolding chosen recorded
+recorded-always E = chosen (λ r. recorded E r 1) E
+
+module _ (rules : List String) (E : Edition) where
+  -- the rule of the first name uses that of the second
+  unfoldable pub uses : (a b : String) → Bool
+  unfolding elem place rules-in right-side
+  uses a b = elem (place b rules) (rules-in (right-side E (place a rules)))
+
+  -- "Errors other readers have made": shift and addition in one rank, or shift above addition; sequences taken as
+  -- parameter or result types; two signs; a forward interface with a base list
+  unfoldable pub avoids-errors : Bool
+  unfolding uses
+  avoids-errors =
+      (uses "shift_expr" "add_expr" && not (uses "add_expr" "shift_expr")) &&
+      ((not (uses "param_type_spec" "sequence_type") && not (uses "param_type_spec" "template_type_spec")) &&
+      ((not (uses "unary_expr" "unary_expr") && not (uses "primary_expr" "unary_expr")) &&
+      not (uses "forward_dcl" "interface_inheritance_spec")))
+
+-- what is computed of an edition: of its rules as written, with the names by rule number, and of the rules that they make
+pub record Facts (kind : String → ℕ) (published : List Rule) (rules : List String) (E : Edition) : Type 0 where
+  pub spelled-right : T (each-side (spelled kind rules) published)
+  pub strings-joined : T (each-side joined published)
+  pub errors-avoided : T (avoids-errors rules E)
+  -- each rule but the first is used
+  pub each-rule-used : unused-rules E ≡ E .start ∷ []
+  -- the rules nest: each closes its own marks, and none holds itself but within marks or by left recursion
+  pub rules-nest : T (nests E)
+
+pub idl-facts : Facts kind-of published (names published) idl
+unfolding each-side spelled joined avoids-errors unused-rules nests kind-of names published idl
+idl-facts = record { spelled-right = tt; strings-joined = tt; errors-avoided = tt; each-rule-used = refl; rules-nest = tt }
+
+pub rules-numbered : numbered idl ≡ (1, 99)
+unfolding numbered idl
+rules-numbered = refl
+
+-- "the 48 alphabetic terminals of 000"
+pub each-kind-used : T (terminals-are kind-of keywords idl)
+unfolding terminals-are kind-of keywords idl
+each-kind-used = tt
 
 -- an interface body may be empty, and nothing else: neither a struct nor rule 19
-pub one-empty-rule : chosen (empty-within idl 20) 1 99 ≡ 8 ∷ []
-unfolding chosen empty-within idl
+pub one-empty-rule : empty-rules idl ≡ 8 ∷ []
+unfolding empty-rules idl
 one-empty-rule = refl
 
--- the rule of the first name uses that of the second
-unfoldable pub uses : (a b : String) → Bool
-unfolding elem place names published rules-in right-side idl
-uses a b = elem (place b (names published)) (rules-in (right-side idl (place a (names published))))
-
--- "Errors other readers have made": shift and addition in one rank, or shift above addition; sequences taken as
--- parameter or result types; two signs; a forward interface with a base list
-pub errors-avoided :
-    T (uses "shift_expr" "add_expr" && not (uses "add_expr" "shift_expr")) ×
-    T (not (uses "param_type_spec" "sequence_type") && not (uses "param_type_spec" "template_type_spec")) ×
-    T (not (uses "unary_expr" "unary_expr") && not (uses "primary_expr" "unary_expr")) ×
-    T (not (uses "forward_dcl" "interface_inheritance_spec"))
-unfolding uses
-errors-avoided = (tt, tt, tt, tt)
-
 -- "rules 1 and 8 are recorded always", and no other over one nonterminal
-pub always-recorded : chosen (λ r. recorded idl r 1) 1 99 ≡ 1 ∷ 8 ∷ []
-unfolding chosen recorded idl
+pub always-recorded : recorded-always idl ≡ 1 ∷ 8 ∷ []
+unfolding recorded-always idl
 always-recorded = refl
 
--- the tree of `interface _factory { };`, whose empty body is recorded at the token number of its "}"
-unfoldable pub empty-interface : Forest
+-- the tree of a declaration with an empty body, alone in its text
+unfoldable pub empty-declared : (keyword header body whole either : ℕ) → Forest
 unfolding kind-of
-empty-interface =
-    let header = leaf (leaf end (kind-of "interface")) 1 in
-    let body = leaf (node (leaf (node end 7 header) (kind-of "{")) 8 end) (kind-of "}") in
-    let definition = leaf (node end 4 (node end 5 body)) (kind-of ";") in
+empty-declared keyword header body whole either =
+    let head = leaf (leaf end keyword) 1 in
+    let braced = leaf (node (leaf (node end header head) (kind-of "{")) body end) (kind-of "}") in
+    let definition = leaf (node end either (node end whole braced)) (kind-of ";") in
     node end 1 (node end 2 definition)
 
-pub empty-body-recorded : records idl 0 empty-interface ≡
+-- `interface _factory { };`: the empty body is recorded at the token number of its "}"
+pub empty-body-recorded : records idl 0 (empty-declared (kind-of "interface") 7 8 5 4) ≡
     tree-record 7 0 2 1 ∷ tree-record 8 3 3 1 ∷ tree-record 5 0 4 3 ∷ tree-record 2 0 5 4 ∷ tree-record 1 0 5 5 ∷ []
-unfolding records empty-interface idl
+unfolding records empty-declared idl
 empty-body-recorded = refl
-
-unfoldable pub kinds-of : List String → List ℕ
-unfolding kind-of
-kinds-of [] = []
-kinds-of (w ∷ ws) = kind-of w ∷ kinds-of ws
 
 -- each of the four marks opens a level, and its fellow closes it
 pub marks-nest :
-    (depth (kind-at (kinds-of ("(" ∷ "{" ∷ "[" ∷ "<" ∷ []))) 4 ≡ 4) ×
-    (depth (kind-at (kinds-of ("(" ∷ "{" ∷ "[" ∷ "<" ∷ ">" ∷ "]" ∷ "}" ∷ ")" ∷ []))) 8 ≡ 0)
+    (depth (kind-at (kinds-of kind-of ("(" ∷ "{" ∷ "[" ∷ "<" ∷ []))) 4 ≡ 4) ×
+    (depth (kind-at (kinds-of kind-of ("(" ∷ "{" ∷ "[" ∷ "<" ∷ ">" ∷ "]" ∷ "}" ∷ ")" ∷ []))) 8 ≡ 0)
 unfolding depth kinds-of
 marks-nest = (refl, refl)
-
--- the rules of edition 1 nest: each closes its own marks, and none holds itself but within marks or by left recursion
-pub rules-nest : T (nests idl)
-unfolding nests idl
-rules-nest = tt

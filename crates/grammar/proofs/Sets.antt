@@ -1,10 +1,18 @@
--- What a conjunction and a disjunction of tests tell of their parts; that equal numbers pass the test of equality.
+-- Subsets; what a conjunction and a disjunction of tests tell of their parts; that equal numbers pass the test of equality.
 -- By cases on the first test; each number passes with itself.
 use Prim.Native.Nat.{ℕ}
 use mathlib.Core.Logic.{_⊎_, inl, inr}
 use mathlib.Core.Path.{_≡_, subst}
 use mathlib.Core.Bool.{Bool, true, false, _&&_, _||_}
+use mathlib.Core.List.{List, [], _∷_}
 use lib.Dec.{T, eqb, eqb-refl}
+use Rattle.grammar.specs.Sets.{elem}
+
+-- each of the first list stands in the second
+unfoldable pub subset : List ℕ → List ℕ → Bool
+unfolding elem
+subset [] ys = true
+subset (x ∷ xs) ys = elem x ys && subset xs ys
 
 pub and-left : (a b : Bool) → T (a && b) → T a
 and-left true b t = tt

@@ -3,7 +3,6 @@ pub mod Forest
 pub mod Rule
 pub mod Notation
 pub mod Idl
-pub mod Editions
 pub mod Derivation
 pub mod Record
 pub mod Depth

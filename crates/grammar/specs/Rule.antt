@@ -11,6 +11,7 @@ pub data RightSide : Type 0 where
   choice : RightSide → RightSide → RightSide
   nothing : RightSide
   repeat : RightSide → RightSide
+  deriving Discrete as RightSide-discrete
 
 -- rule number r stands at place r of the list, after one entry for number 0, which is no rule
 pub record Edition : Type 0 where

@@ -1,4 +1,4 @@
--- The kinds of token and their numbers: paper 01, "Kinds". The 48 keywords and the 24 marks stand here by their spelling.
+-- The kinds of token and their numbers: paper 01, "Kinds", and requests A6 and A13. Keywords and marks stand here by their spelling.
 -- Assumes nothing: these are definitions.
 use mathlib.Core.Bool.{Bool, true, false, _&&_, cond}
 use mathlib.Core.List.{List, [], _∷_}
@@ -79,3 +79,26 @@ mark w = search-from 64 same w marks
 unfoldable pub kind-of : String → ℕ
 unfolding bytes keyword mark
 kind-of w = cond (ltb 0 (keyword (bytes w))) (keyword (bytes w)) (mark (bytes w))
+
+-- the further keywords of the component edition, kinds 88 up in byte order of their spelling: request A6
+unfoldable pub component-keywords : List String
+component-keywords =
+    "component" ∷ "consumes" ∷ "emits" ∷ "eventtype" ∷ "finder" ∷ "getraises" ∷ "home" ∷ "import" ∷ "manages" ∷
+    "multiple" ∷ "primarykey" ∷ "provides" ∷ "publishes" ∷ "setraises" ∷ "typeid" ∷ "typeprefix" ∷ "uses" ∷ []
+
+-- the kind of the further keyword spelled exactly w; 0 where w is none
+unfoldable pub component-keyword : List ℕ → ℕ
+unfolding same search-from component-keywords
+component-keyword w = search-from 88 same w component-keywords
+
+-- the kind of a terminal of the component edition, by its spelling
+unfoldable pub component-kind-of : String → ℕ
+unfolding bytes component-keyword kind-of
+component-kind-of w = cond (ltb 0 (kind-of w)) (kind-of w) (component-keyword (bytes w))
+
+-- the keywords of the data-only edition, which have the kinds of the first edition: request A13
+unfoldable pub data-only-keywords : List String
+data-only-keywords =
+    "FALSE" ∷ "TRUE" ∷ "boolean" ∷ "case" ∷ "char" ∷ "const" ∷ "default" ∷ "double" ∷ "enum" ∷ "fixed" ∷ "float" ∷
+    "long" ∷ "module" ∷ "native" ∷ "octet" ∷ "sequence" ∷ "short" ∷ "string" ∷ "struct" ∷ "switch" ∷ "typedef" ∷
+    "union" ∷ "unsigned" ∷ "wchar" ∷ "wstring" ∷ []

@@ -1,1 +1,1 @@
-// The kinds of token, by spelling: definitions alone, in specs/Kinds.antt.
+// The kinds of token, by spelling: definitions in specs/Kinds.antt, facts on them in proofs/Facts.antt.

@@ -1,7 +1,7 @@
 -- Edition 1 passes its test: its plans derive what its rules derive, and each choice is made by one token.
 -- Computed.
 use lib.Dec.{T}
-use Rattle.grammar.proofs.Facts.{rules-nest}
+use Rattle.grammar.proofs.Facts.{idl-facts}
 use Rattle.grammar.specs.Idl.{idl}
 use Rattle.prediction.specs.Check.{passes, Checked}
 use Rattle.prediction.specs.IdlPlans.{idl-prediction}
@@ -11,4 +11,4 @@ unfolding passes idl idl-prediction
 idl-passes = tt
 
 abbrev pub idl-checked : Checked idl
-idl-checked = record { prediction = idl-prediction; passed = idl-passes; nested = rules-nest }
+idl-checked = record { prediction = idl-prediction; passed = idl-passes; nested = idl-facts .rules-nest }

@@ -3,7 +3,6 @@ pub mod Maximal
 pub mod Viable
 pub mod Choice
 pub mod IdlChecked
-pub mod Editions
 pub mod SamePlans
 pub mod Verdict
 pub mod Bound

@@ -6,12 +6,8 @@ use Rattle.kinds.specs.Kinds.{kind-of}
 use Rattle.grammar.specs.Idl.{published, idl}
 use Rattle.grammar.specs.Notation.{_+, _::=_, names}
 use Rattle.prediction.specs.Check.{Prediction}
-use Rattle.prediction.specs.Planning.{Sketch, predict}
-use Rattle.prediction.specs.PlanNotation.{`_, <_>, _▸_, _∣_, ⟦_⟧, _*, Drawn, make, sketch}
-
--- the sketch of a rule's plan, with the rules that it opens
-abbrev for : (rule : String) (opening : List String) → Drawn → Sketch
-for = sketch kind-of (names published)
+use Rattle.prediction.specs.Planning.{predict}
+use Rattle.prediction.specs.PlanNotation.{`_, <_>, _▸_, _∣_, ⟦_⟧, _*, Drawn, make, Draft, draft, sketch-each}
 
 -- the bases of an interface, if any, and its body
 abbrev pub interface-body : Drawn
@@ -24,17 +20,21 @@ abbrev pub interface-rest : Drawn
 interface-rest =
     < "identifier" > ▸ (interface-body ∣ make "forward_dcl") ▸ make "interface"
 
-abbrev pub abstract-value-body : Drawn
-abstract-value-body = ⟦ < "value_inheritance_spec" > ⟧ ▸ ` "{" ▸ < "export" > * ▸ ` "}" ▸ make "value_abs_dcl"
+-- the bases of an abstract value, if any, and its body; in edition 2 those of an event too
+abbrev pub abstract-body : (whole : String) → Drawn
+abstract-body whole = ⟦ < "value_inheritance_spec" > ⟧ ▸ ` "{" ▸ < "export" > * ▸ ` "}" ▸ make whole
+
+-- the same of any other value
+abbrev pub body : (header whole : String) → Drawn
+body header whole =
+    ⟦ < "value_inheritance_spec" > ⟧ ▸ make header ▸ ` "{" ▸ < "value_element" > * ▸ ` "}" ▸ make whole
 
 -- behind "abstract" "valuetype": an abstract value, or a forward one
 abbrev pub abstract-value-rest : Drawn
-abstract-value-rest = < "identifier" > ▸ (abstract-value-body ∣ make "value_forward_dcl") ▸ make "value"
+abstract-value-rest = < "identifier" > ▸ (abstract-body "value_abs_dcl" ∣ make "value_forward_dcl") ▸ make "value"
 
--- the bases of a value, if any, and its body
 abbrev pub value-body : Drawn
-value-body =
-    ⟦ < "value_inheritance_spec" > ⟧ ▸ make "value_header" ▸ ` "{" ▸ < "value_element" > * ▸ ` "}" ▸ make "value_dcl"
+value-body = body "value_header" "value_dcl"
 
 -- behind "custom" "valuetype"
 abbrev pub custom-value-rest : Drawn
@@ -50,12 +50,12 @@ abbrev pub struct-rest : Drawn
 struct-rest =
     < "identifier" > ▸ (` "{" ▸ < "member_list" > ▸ ` "}" ▸ make "struct_type" ∣ make "constr_forward_decl")
 
-abbrev pub union-body : Drawn
-union-body =
-    ` "switch" ▸ ` "(" ▸ < "switch_type_spec" > ▸ ` ")" ▸ ` "{" ▸ < "switch_body" > ▸ ` "}" ▸ make "union_type"
+abbrev pub union-body : (whole : String) → Drawn
+union-body whole =
+    ` "switch" ▸ ` "(" ▸ < "switch_type_spec" > ▸ ` ")" ▸ ` "{" ▸ < "switch_body" > ▸ ` "}" ▸ make whole
 
 abbrev pub union-rest : Drawn
-union-rest = < "identifier" > ▸ (union-body ∣ make "constr_forward_decl")
+union-rest = < "identifier" > ▸ (union-body "union_type" ∣ make "constr_forward_decl")
 
 -- behind "long": a second "long", or none
 abbrev pub long-rest : Drawn
@@ -161,10 +161,10 @@ unsigned-plan =
     (` "short" ▸ make "unsigned_short_int"
     ∣ ` "long" ▸ (` "long" ▸ make "unsigned_longlong_int" ∣ make "unsigned_long_int")) ▸ make "unsigned_int"
 
--- (80)
-abbrev pub sequence-plan : Drawn
-sequence-plan =
-    ` "sequence" ▸ ` "<" ▸ < "simple_type_spec" > ▸ ⟦ ` "," ▸ < "positive_int_const" > ⟧ ▸ ` ">" ▸ make "sequence_type"
+-- (80), by the rule of its elements
+abbrev pub sequence-plan : (element : String) → Drawn
+sequence-plan element =
+    ` "sequence" ▸ ` "<" ▸ < element > ▸ ⟦ ` "," ▸ < "positive_int_const" > ⟧ ▸ ` ">" ▸ make "sequence_type"
 
 -- (81)
 abbrev pub string-plan : Drawn
@@ -179,25 +179,32 @@ abbrev pub parameters-plan : Drawn
 parameters-plan =
     ` "(" ▸ ⟦ < "param_dcl" > ▸ (` "," ▸ < "param_dcl" >) * ⟧ ▸ ` ")" ▸ make "parameter_dcls"
 
--- each rule with the rules that its plan opens
-unfoldable pub sketches : List Sketch
-unfolding sketch kind-of names published
-sketches =
-    for "definition" ("interface" ∷ "value" ∷ interface-rules ++ value-rules) definition-plan ∷
-    for "interface" interface-rules interface-plan ∷
-    for "value" value-rules value-plan ∷
-    for "const_type" number-rules const-type-plan ∷
-    for "type_dcl" ("struct_type" ∷ "union_type" ∷ "constr_forward_decl" ∷ []) type-plan ∷
-    for "base_type_spec" number-rules base-type-plan ∷
-    for "declarator" ("simple_declarator" ∷ "complex_declarator" ∷ "array_declarator" ∷ []) declarator-plan ∷
-    for "signed_int" ("signed_short_int" ∷ "signed_long_int" ∷ "signed_longlong_int" ∷ []) signed-plan ∷
-    for "unsigned_int" ("unsigned_short_int" ∷ "unsigned_long_int" ∷ "unsigned_longlong_int" ∷ []) unsigned-plan ∷
-    for "sequence_type" [] sequence-plan ∷
-    for "string_type" [] string-plan ∷
-    for "wide_string_type" [] wide-string-plan ∷
-    for "parameter_dcls" [] parameters-plan ∷
+-- each rule with the rules that its plan opens: those that all three editions have,
+abbrev pub common : List Draft
+common =
+    draft "const_type" number-rules const-type-plan ∷
+    draft "signed_int" ("signed_short_int" ∷ "signed_long_int" ∷ "signed_longlong_int" ∷ []) signed-plan ∷
+    draft "unsigned_int" ("unsigned_short_int" ∷ "unsigned_long_int" ∷ "unsigned_longlong_int" ∷ []) unsigned-plan ∷
+    draft "string_type" [] string-plan ∷
+    draft "wide_string_type" [] wide-string-plan ∷
     []
 
+-- those that edition 2 has too,
+abbrev pub kept : List Draft
+kept =
+    draft "interface" interface-rules interface-plan ∷
+    draft "value" value-rules value-plan ∷
+    draft "type_dcl" ("struct_type" ∷ "union_type" ∷ "constr_forward_decl" ∷ []) type-plan ∷
+    draft "base_type_spec" number-rules base-type-plan ∷
+    draft "declarator" ("simple_declarator" ∷ "complex_declarator" ∷ "array_declarator" ∷ []) declarator-plan ∷
+    draft "sequence_type" [] (sequence-plan "simple_type_spec") ∷
+    draft "parameter_dcls" [] parameters-plan ∷
+    []
+
+-- and its own
+abbrev pub drafts : List Draft
+drafts = draft "definition" ("interface" ∷ "value" ∷ interface-rules ++ value-rules) definition-plan ∷ common ++ kept
+
 unfoldable pub idl-prediction : Prediction
-unfolding predict sketches idl
-idl-prediction = predict sketches idl
+unfolding predict sketch-each kind-of names published idl
+idl-prediction = predict (sketch-each kind-of (names published) drafts) idl

@@ -14,6 +14,7 @@ pub mod RulesAsPlans
 pub mod Weight
 pub mod Parser
 pub mod Columns
+pub mod Shared
 pub mod Check
 pub mod Planning
 pub mod PlanNotation

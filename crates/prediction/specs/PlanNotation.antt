@@ -2,7 +2,7 @@
 -- Definitions alone.
 use Prim.Native.Nat.{ℕ, zero, suc}
 use Prim.Native.String.{String}
-use mathlib.Core.List.{List}
+use mathlib.Core.List.{List, [], _∷_}
 use Rattle.grammar.specs.Notation.{_+, _::=_, token-names, place, places}
 use Rattle.prediction.specs.Plan.{Plan, token, call, wrap, seq, alt, skip, many}
 use Rattle.prediction.specs.Planning.{grouped, Sketch}
@@ -20,6 +20,10 @@ pub data Drawn : Type 0 where
   ⟦_⟧ : Drawn → Drawn
   _* : Drawn → Drawn
 
+-- the plan of a rule as it is drawn, with the names of the rules that it opens where they stand first
+pub data Draft : Type 0 where
+  draft : (rule : String) (opening : List String) → Drawn → Draft
+
 unfoldable pub called : (token rule : ℕ) → Plan
 called zero r = call r
 called (suc k) r = token (suc k)
@@ -35,7 +39,11 @@ module _ (kind : String → ℕ) (rules : List String) where
   drawn (⟦ a ⟧) = alt (drawn a) skip
   drawn (a *) = many (drawn a)
 
-  -- the sketch of a rule's plan, opening the rules of these names where they stand first
-  unfoldable pub sketch : (rule : String) (opening : List String) → Drawn → Sketch
+  unfoldable pub sketch : Draft → Sketch
   unfolding place places drawn grouped
-  sketch r os p = record { rule = place r rules; opens = places os rules; follows = grouped (drawn p) }
+  sketch (draft r os p) = record { rule = place r rules; opens = places os rules; follows = grouped (drawn p) }
+
+  unfoldable pub sketch-each : List Draft → List Sketch
+  unfolding sketch
+  sketch-each [] = []
+  sketch-each (d ∷ ds) = sketch d ∷ sketch-each ds

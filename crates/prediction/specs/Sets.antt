@@ -1,12 +1,13 @@
--- Sets of token kinds as lists, with tests that compute, and the laws of Boolean facts.
+-- Sets of numbers as lists, with tests that compute, and the laws of Boolean facts.
 -- Each law by cases on the Booleans or by induction on the list.
-use Prim.Native.Nat.{ℕ}
+use Prim.Native.Nat.{ℕ, zero, suc}
 use mathlib.Core.Path.{_≡_, sym, subst}
-use mathlib.Core.Logic.{_⊎_, inl, inr}
+use mathlib.Core.Logic.{_⊎_, inl, inr, ⊎-elim}
 use mathlib.Core.Bool.{Bool, true, false, not, _&&_, _||_}
 use mathlib.Core.List.{List, [], _∷_, _++_}
 use lib.Dec.{T, eqb, eqb→eq}
 use Rattle.grammar.specs.Sets.{elem}
+unfoldable pub use Rattle.grammar.proofs.Sets.{subset}
 pub use Rattle.grammar.proofs.Sets.{and-left, and-right, or-cases, eq→eqb}
 
 pub or-left : (a b : Bool) → T a → T (a || b)
@@ -26,10 +27,22 @@ unfoldable pub only : Bool → List ℕ → List ℕ
 only true xs = xs
 only false xs = []
 
-unfoldable pub subset : List ℕ → List ℕ → Bool
-unfolding elem
-subset [] ys = true
-subset (x ∷ xs) ys = elem x ys && subset xs ys
+-- n numbers in a row, from a on
+unfoldable pub row : (a n : ℕ) → List ℕ
+row a zero = []
+row a (suc n) = a ∷ row (suc a) n
+
+-- a test holds of each of these numbers
+unfoldable pub each : (ℕ → Bool) → List ℕ → Bool
+each f [] = true
+each f (n ∷ ns) = f n && each f ns
+
+pub each-at : (f : ℕ → Bool) (ns : List ℕ) (n : ℕ) → T (each f ns) → T (elem n ns) → T (f n)
+unfolding each elem
+each-at f [] n u v = absurd v
+each-at f (m ∷ ns) n u v =
+    ⊎-elim (λ e. subst (λ (k : ℕ). T (f k)) (sym (eqb→eq n m e)) (and-left (f m) (each f ns) u))
+    (λ w. each-at f ns n (and-right (f m) (each f ns) u) w) (or-cases (eqb n m) (elem n ns) v)
 
 unfoldable pub disjoint : List ℕ → List ℕ → Bool
 unfolding elem

@@ -1,3 +1,4 @@
+pub mod Editions
 pub mod Mixtures
 pub mod Places
 pub mod Soundness

@@ -9,7 +9,6 @@ use Rattle.grammar.specs.Blame.{Begins, Blame}
 use Rattle.grammar.specs.Depth.{Within}
 use Rattle.grammar.specs.Derivation.{kind-at, Derivation}
 use Rattle.grammar.specs.Forest.{Forest, leaves}
-use Rattle.grammar.specs.Editions.{Offered}
 use Rattle.grammar.specs.Meaning.{Meaning}
 use Rattle.grammar.specs.Rule.{Edition}
 use Rattle.limits.specs.Limits.{good-call}
@@ -21,12 +20,13 @@ use Rattle.meaning.specs.Sense.{Sense, Means, TextSense, TextMeans, kind, tree-
 use Rattle.meaning.specs.Verdict.{verdict}
 use Rattle.meaning.specs.Answer.{place}
 use Rattle.meaning.specs.Calls.{Answered, first-records, good-tree-call, TreeAnswered}
-use Rattle.prediction.proofs.Editions.{checked-of}
 use Rattle.prediction.proofs.Theorems as theorems
 use Rattle.verdicts.specs.Samples.{All, Holds, starred}
 use Rattle.verdicts.proofs.OneMeaning.{some-text-sense, one-text-sense}
 use Rattle.verdicts.proofs.Samples.{starred-hold}
+use Rattle.promises.specs.Editions.{Offered}
 use Rattle.promises.specs.Demands.{Mixed, TreeAccepted, Accepted, TreeBlamed, Blamed, Kept, Again, TreeKept}
+use Rattle.promises.proofs.Editions.{checked-of}
 use Rattle.promises.proofs.Mixtures as mixtures
 use Rattle.promises.proofs.Demand1 as demand-1
 use Rattle.promises.proofs.Demand2 as demand-2

@@ -6,13 +6,13 @@ use lib.Dec.{T}
 use lib.ListN.{length}
 use Rattle.grammar.specs.Blame.{Begins, Blame}
 use Rattle.grammar.specs.Derivation.{kind-at}
-use Rattle.grammar.specs.Editions.{Offered, edition-1}
+use Rattle.promises.specs.Editions.{Offered, edition-1}
 use Rattle.grammar.specs.Rule.{Edition}
 use Rattle.kinds.specs.Kinds.{string, wide-string}
 use Rattle.prediction.specs.Check.{Checked, plans-of, table}
 use Rattle.prediction.specs.Columns.{every, plan-at, round}
 use Rattle.prediction.specs.IdlPlans.{idl-prediction}
-use Rattle.prediction.proofs.Editions.{checked-of}
+use Rattle.promises.proofs.Editions.{checked-of}
 use Rattle.prediction.proofs.Neighbours.{keeps-apart, blamed-beside}
 use Rattle.promises.specs.Demands.{Mixed, wide-behind-narrow, narrow-behind-wide}
 

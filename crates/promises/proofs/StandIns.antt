@@ -10,7 +10,7 @@ use lib.Dec.{ltb}
 use lib.ListN.{length, getD}
 use Rattle.kinds.specs.Kinds.{bytes}
 use Rattle.grammar.specs.Derivation.{kind-at}
-use Rattle.grammar.specs.Editions.{edition-1}
+use Rattle.promises.specs.Editions.{edition-1}
 use Rattle.grammar.specs.Idl.{idl}
 use Rattle.replies.specs.declared.Reply.{Reply}
 use Rattle.tables.specs.Tables.{capacity, row, front, token-width, node-width}

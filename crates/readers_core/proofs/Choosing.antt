@@ -10,7 +10,8 @@ use lib.Dec.{T, T-not, not-T, eqb, eqb→eq}
 use Rattle.grammar.specs.Forest.{Forest}
 use Rattle.grammar.specs.Sets.{elem}
 use Rattle.prediction.specs.Sets.{subset, disjoint, subset-in, disjoint-not, and-left, and-right, and-both, or-left}
-use Rattle.prediction.specs.Sets.{or-right, or-cases, decide, elem-left, elem-right, elem-eq, eq→eqb}
+unfoldable pub use Rattle.prediction.specs.Sets.{row}
+use Rattle.prediction.specs.Sets.{each, each-at, or-right, or-cases, decide, elem-left, elem-right, elem-eq, eq→eqb}
 use Rattle.prediction.specs.Plan.{Plan, token, group, call, wrap, seq, alt, skip, many}
 use Rattle.prediction.specs.Typing.{Table, first, null}
 use Rattle.prediction.specs.Run.{Outcome, goes, turns, Runs, run-left, run-right, run-neither, run-seq}
@@ -53,11 +54,6 @@ any-elem [] x h = h
 any-elem (k ∷ []) x h = or-left (eqb x k) false (eq→eqb x k h)
 any-elem (k ∷ (l ∷ ls)) x (inl h) = or-left (eqb x k) (elem x (l ∷ ls)) (eq→eqb x k h)
 any-elem (k ∷ (l ∷ ls)) x (inr h) = or-right (eqb x k) (elem x (l ∷ ls)) (any-elem (l ∷ ls) x h)
-
--- n kinds in a row, from a on
-unfoldable pub row : ℕ → ℕ → List ℕ
-row a zero = []
-row a (suc n) = a ∷ row (suc a) n
 
 pub any-row : (a n x : ℕ) → a ≤ x → x ≤ a + n → AnyOf (row a (suc n)) x
 unfolding row AnyOf
@@ -158,14 +154,9 @@ takes t x (seq a b) = false
 takes t x skip = false
 takes t x (many a) = false
 
-unfoldable pub all-taken : Table → List ℕ → Plan → Bool
-unfolding takes
-all-taken t [] p = true
-all-taken t (k ∷ ks) p = takes t k p && all-taken t ks p
-
 unfoldable pub one-of : Table → Known → Plan → Bool
-unfolding all-taken
-one-of t (among ks) p = all-taken t ks p
+unfolding takes each
+one-of t (among ks) p = each (λ k. takes t k p) ks
 one-of t (except arms) p = false
 
 -- in any course
@@ -294,13 +285,6 @@ module _ (C : Course) where
       go false true p q r = q tt r
       go false false p q r = r
 
-  taken-at : (ks : List ℕ) (p : Plan) (x : ℕ) → T (all-taken t ks p) → T (elem x ks) → T (takes t x p)
-  unfolding all-taken elem
-  taken-at [] p x u e = absurd e
-  taken-at (k ∷ ks) p x u e =
-      ⊎-elim (λ v. subst (λ (n : ℕ). T (takes t n p)) (sym (eqb→eq x k v)) (and-left (takes t k p) (all-taken t ks p) u))
-      (λ v. taken-at ks p x (and-right (takes t k p) (all-taken t ks p) u) v) (or-cases (eqb x k) (elem x ks) e)
-
   takes-first : (x : ℕ) (p : Plan) → T (takes t x p) → T (elem x (first t p))
   unfolding takes first
   takes-first x (token k) u = elem-eq x k (eqb→eq x k u)
@@ -341,7 +325,7 @@ module _ (C : Course) where
   pub run-one-of : (s : ℕ → ℕ) {d i : ℕ} (k : Known) → Knows k (s i) → (p : Plan) {f : Forest} {x : Outcome} →
       T (one-of t k p) → Runs t s d (token (s i)) i f x → Runs t s d p i f x
   unfolding one-of Knows
-  run-one-of s {i = i} (among ks) h p u r = one-token s p (taken-at ks p (s i) u (any-elem ks (s i) h)) r
+  run-one-of s {i = i} (among ks) h p u r = one-token s p (each-at (λ k. takes t k p) ks (s i) u (any-elem ks (s i) h)) r
   run-one-of s (except arms) h p u r = absurd u
 
 -- what a plan comes to names no other rules
@@ -437,8 +421,9 @@ module _ {R C : Course} (m : Shares R C) where
   takes-shared x skip u = refl
   takes-shared x (many a) u = refl
 
-  all-taken-shared : (ks : List ℕ) (p : Plan) → Inside (m .rule) p → all-taken there ks (in-other p) ≡ all-taken here ks p
-  unfolding all-taken
+  all-taken-shared : (ks : List ℕ) (p : Plan) → Inside (m .rule) p →
+      each (λ k. takes there k (in-other p)) ks ≡ each (λ k. takes here k p) ks
+  unfolding each
   all-taken-shared [] p u = refl
   all-taken-shared (k ∷ ks) p u = rw (takes-shared k p u, all-taken-shared ks p u)
 

@@ -1,6 +1,7 @@
 pub mod Views
 pub mod Storing
 pub mod Sharing
+pub mod Editions
 pub mod Holding
 pub mod Shapes
 pub mod Sequence

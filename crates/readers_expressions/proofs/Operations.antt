@@ -10,7 +10,7 @@ use mathlib.Core.Logic.{_⊎_, inl, inr, ⊎-elim}
 use lib.Dec.{T, T-not, eqb, eqb→eq, leb, leb→le}
 use Rattle.grammar.specs.Forest.{Forest}
 use Rattle.grammar.specs.Sets.{elem}
-use Rattle.prediction.specs.Sets.{decide, and-left, and-right, or-left, or-cases, only, eq→eqb}
+use Rattle.prediction.specs.Sets.{decide, and-left, and-right, or-left, or-cases, only, eq→eqb, row, each, each-at}
 use Rattle.prediction.specs.Plan.{Plan, token, call, wrap, seq, alt, many}
 use Rattle.prediction.specs.Renaming.{Inside, renamed}
 use Rattle.prediction.specs.Typing.{null, first}
@@ -21,24 +21,12 @@ use Rattle.prediction.specs.Check.{all-typed, null-exactly, table}
 use Rattle.prediction.specs.IdlPlans.{idl-prediction}
 use Rattle.readers_core.specs.Course.{Course, one, table-in}
 use Rattle.readers_core.specs.Reading.{kind-at, ahead, view, State, From, several, all-recorded, none-recorded}
-use Rattle.readers_core.proofs.Choosing.{among, except, is-over, row}
+use Rattle.readers_core.proofs.Choosing.{among, except, is-over}
 use Rattle.readers_core.proofs.Frames.{ahead-kind}
 use Rattle.readers_core.proofs.Repetition.{repeats}
 use Rattle.readers_core.proofs.Sequence.{read-as}
 use Rattle.readers_core.proofs.Shapes.{leaves}
 use Rattle.readers_expressions.specs.Levels.{operators, one-before, further-operand, first-with, level-of}
-
--- a test holds of each of these kinds
-unfoldable pub each-kind : (ℕ → Bool) → List ℕ → Bool
-each-kind f [] = true
-each-kind f (k ∷ ks) = f k && each-kind f ks
-
-kind-at-hand : (f : ℕ → Bool) (ks : List ℕ) (x : ℕ) → T (each-kind f ks) → T (elem x ks) → T (f x)
-unfolding each-kind elem
-kind-at-hand f [] x u v = absurd v
-kind-at-hand f (k ∷ ks) x u v =
-    ⊎-elim (λ e. subst (λ (y : ℕ). T (f y)) (sym (eqb→eq x k e)) (and-left (f k) (each-kind f ks) u))
-    (kind-at-hand f ks x (and-right (f k) (each-kind f ks) u)) (or-cases (eqb x k) (elem x ks) v)
 
 -- what a level is: its first operand, alone without a record, and further ones as long as its operators are next; these are
 -- operators of no other level, and stand between the first and the last of all
@@ -49,15 +37,15 @@ pub record Level (n : ℕ) : Type 0 where
   pub joined : (hs : List ℕ) → T (all-recorded one n (leaves (one-before (operators n) (call (n + 1))) hs))
   pub goes-on : T (repeats (table-in one) (among (operators n)) (further-operand n))
   pub is-over : T (is-over (table-in one) (except (operators n ∷ [])) (further-operand n))
-  pub own : T (each-kind (λ k. eqb (level-of k) n) (operators n))
-  pub within : T (each-kind (λ k. leb 77 k && leb k 86) (operators n))
+  pub own : T (each (λ k. eqb (level-of k) n) (operators n))
+  pub within : T (each (λ k. leb 77 k && leb k 86) (operators n))
 
 pub apart : (m n : ℕ) → (m ≡ n) ⊎ (m ≡ n → ⊥)
 apart m n = ⊎-elim (λ u. inl (eqb→eq m n u))
     (λ u. inr (λ e. T-not (eqb m n) u (eq→eqb m n e))) (decide (eqb m n))
 
-each : (P : ℕ → Type 0) → P 30 → P 31 → P 32 → P 33 → P 34 → P 35 → (n : ℕ) → 30 ≤ n → n ≤ 35 → P n
-each P a b c d e f n h l =
+at-each : (P : ℕ → Type 0) → P 30 → P 31 → P 32 → P 33 → P 34 → P 35 → (n : ℕ) → 30 ≤ n → n ≤ 35 → P n
+at-each P a b c d e f n h l =
     is 30 a (λ m0. is 31 b (λ m1. is 32 c (λ m2. is 33 d (λ m3. is 34 e (λ m4. is 35 f (λ m5. absurd (omega arith)))))))
   where
     is : (m : ℕ) → P m → ((n ≡ m → ⊥) → P n) → P n
@@ -65,9 +53,9 @@ each P a b c d e f n h l =
 
 pub at-level : (n : ℕ) → 30 ≤ n → n ≤ 35 → Level n
 unfolding elem table round plan-at idl-prediction operators one-before further-operand repeats is-over
-    each-kind level-of leaves all-recorded none-recorded
+    each level-of leaves all-recorded none-recorded
 at-level =
-    each Level
+    at-each Level
     (record { plan = refl; alone = tt; together = tt; joined = λ _. tt; goes-on = tt; is-over = tt; own = tt; within = tt })
     (record { plan = refl; alone = tt; together = tt; joined = λ _. tt; goes-on = tt; is-over = tt; own = tt; within = tt })
     (record { plan = refl; alone = tt; together = tt; joined = λ _. tt; goes-on = tt; is-over = tt; own = tt; within = tt })
@@ -77,11 +65,11 @@ at-level =
 
 -- an operator of a level is of no other, and stands between the first and the last
 pub of-level : {n : ℕ} (x : ℕ) → Level n → T (elem x (operators n)) → level-of x ≡ n
-of-level {n} x l u = eqb→eq (level-of x) n (kind-at-hand (λ k. eqb (level-of k) n) (operators n) x (l .own) u)
+of-level {n} x l u = eqb→eq (level-of x) n (each-at (λ k. eqb (level-of k) n) (operators n) x (l .own) u)
 
 between : {n x : ℕ} → Level n → T (elem x (operators n)) → (77 ≤ x) × (x ≤ 86)
 between {n} {x} l u =
-    let h = kind-at-hand (λ k. leb 77 k && leb k 86) (operators n) x (l .within) u in
+    let h = each-at (λ k. leb 77 k && leb k 86) (operators n) x (l .within) u in
     (leb→le 77 x (and-left (leb 77 x) (leb x 86) h), leb→le x 86 (and-right (leb 77 x) (leb x 86) h))
 
 -- the level of a kind is 0, or one that it is an operator of

@@ -61,7 +61,9 @@ zeroed-same w w′ e = rw e
 abbrev beginning : Reading
 beginning = view 0
 
-module _ (C : Course) (plain : (r : ℕ) → C .code r ≡ r) (tokens : List ℕ) (count text depth : ℕ) (fits : token-width * count ≤ length tokens) (few : count < 2 ^ 26) where
+-- in any course in which readers write the numbers of the rules themselves
+module _ (C : Course) (plain : (r : ℕ) → C .code r ≡ r) (tokens : List ℕ) (count text depth : ℕ)
+    (fits : token-width * count ≤ length tokens) (few : count < 2 ^ 26) where
   abbrev E : Edition
   E = C .edition
 

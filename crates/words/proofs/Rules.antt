@@ -12,7 +12,8 @@ use Rattle.kinds.specs.Kinds.{bytes, keywords, same}
 use Rattle.text.specs.Bytes.{at, from}
 use Rattle.text.specs.Words.{lower, same-but-case}
 use Rattle.text.proofs.Ranges.{agree, agreed, and-left, and-right, every, every-at, or-else, within}
-use Rattle.words.specs.Table.{before, count, near, near-to, place-of, table, spelling, First}
+use Rattle.kinds.proofs.Facts.{before}
+use Rattle.words.specs.Table.{count, near, near-to, place-of, table, spelling, First}
 use Rattle.words.proofs.Letters.{from-holds}
 use Rattle.words.proofs.Spellings.{unless, same-equal, near-length, near-letter}
 

@@ -1,12 +1,12 @@
 -- The keyword table of the code: a row for each keyword, and an index of the rows by first letter and length.
 -- Assumes nothing: these are definitions.
-use mathlib.Core.Bool.{Bool, true, false, _&&_, _||_, cond}
+use mathlib.Core.Bool.{Bool, true, false, _&&_, cond}
 use mathlib.Core.List.{List, [], _∷_, _++_}
 use mathlib.Core.Path.{_≡_}
 use Prim.Native.Char.{code}
 use Prim.Native.Nat.{ℕ, zero, suc, _+_, _-_, _≤_, _<_}
 use Prim.Native.String.{String}
-use lib.Dec.{eqb, ltb}
+use lib.Dec.{eqb}
 use lib.ListN.{length, getD, take, drop}
 use Rattle.kinds.specs.Kinds.{bytes, keywords, same}
 use Rattle.text.specs.Bytes.{at}
@@ -74,13 +74,6 @@ place-of letter = letter - code "a"
 unfoldable pub spelling : ℕ → List ℕ
 unfolding bytes keywords
 spelling i = bytes (getD keywords i "")
-
--- byte order
-unfoldable pub before : List ℕ → List ℕ → Bool
-before [] [] = false
-before [] (y ∷ ys) = true
-before (x ∷ xs) [] = false
-before (x ∷ xs) (y ∷ ys) = ltb x y || (eqb x y && before xs ys)
 
 -- the four bytes of a spelling from place i on
 abbrev pub four-at : ℕ → List ℕ → List ℕ

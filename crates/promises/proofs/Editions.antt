@@ -1,9 +1,9 @@
 -- Each edition that is offered passes its test.
 -- Computed for each.
 use Rattle.grammar.specs.Rule.{Edition}
-use Rattle.grammar.specs.Editions.{Offered, edition-1}
+use Rattle.promises.specs.Editions.{Offered, edition-1}
 use Rattle.prediction.specs.Check.{Checked}
 use Rattle.prediction.proofs.IdlChecked.{idl-checked}
 
 unfoldable pub checked-of : {E : Edition} → Offered E → Checked E
 checked-of edition-1 = idl-checked

@@ -1,0 +1,3 @@
+pub mod Facts
+pub mod Checked
+pub mod Shared

@@ -1,0 +1,3 @@
+pub mod DataOnly
+pub mod Plans
+pub mod Shared
