@@ -1,6 +1,7 @@
 // A reader's state, and what every reader is made of: tokens, marks that open, and nodes.
 // A state that has stopped passes through every reader, so that readers are straight lines. They pass the token table on as
 // `&*tokens`, and those that the compiler does not inline lend it anew at their start, too: so it travels in registers.
+// A reader's contract names the course whose plans it follows, `one` for edition 1, and holds in every course that shares the rules.
 ghost use mathlib.Core.Path.{_≡_};
 ghost use lib.Dec.{eqb, leb};
 ghost use Prim.Native.Nat.{_<_, _%_};
