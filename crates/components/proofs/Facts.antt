@@ -1,6 +1,5 @@
 -- Facts on the rules of edition 2, as on those of edition 1; and which of these it changes.
 -- Computed, each as one test over the table.
-use Prim.Native.Nat.{ℕ}
 use mathlib.Core.Path.{_≡_, refl}
 use mathlib.Core.Bool.{not, decide}
 use mathlib.Core.List.{[], _∷_, _++_}

@@ -1,5 +1,5 @@
--- Source document 003, rules 1 to 138, in its order and form. What papers 01 and 02 repair and amend is marked where it stands.
--- Assumes nothing: this is the grammar that is believed, edition 2.
+-- Source document 003, rules 1 to 138, in its order and form. What paper 02 repairs and amends is marked where it stands.
+-- Assumes nothing: data, to be believed once edition 2 is offered.
 use mathlib.Core.List.{List, [], _∷_}
 use Rattle.kinds.specs.Kinds.{component-kind-of}
 use Rattle.grammar.specs.Rule.{Edition}

@@ -4,7 +4,7 @@ use Prim.Native.String.{String}
 use mathlib.Core.List.{List, [], _∷_, _++_}
 use Rattle.kinds.specs.Kinds.{component-kind-of}
 use Rattle.components.specs.Components.{published, components}
-use Rattle.grammar.specs.Notation.{_+, _::=_, names}
+use Rattle.grammar.specs.Notation.{_+, names}
 use Rattle.prediction.specs.Check.{Prediction}
 use Rattle.prediction.specs.Planning.{predict}
 use Rattle.prediction.specs.PlanNotation.{`_, <_>, _▸_, _∣_, ⟦_⟧, _*, Drawn, make, Draft, draft, sketch-each}

@@ -1,5 +1,5 @@
 -- Source document 001, its rules counted from the top starting at 201, in its order and form. What paper 02 says of a rule is marked where it stands.
--- Assumes nothing: this is the grammar that is believed, edition 3.
+-- Assumes nothing: data, to be believed once edition 3 is offered.
 use Prim.Native.Nat.{ℕ}
 use Prim.Native.String.{String}
 use mathlib.Core.List.{List, [], _∷_, _++_}

@@ -1,13 +1,11 @@
 -- The plans of edition 3: five sketches are those of edition 1 and six its own; the rest come from the rules.
 -- Data. That they derive what the rules derive, and choose by one token, is the test in proofs/Checked.
-use Prim.Native.String.{String}
-use mathlib.Core.List.{List, [], _∷_, _++_}
+use mathlib.Core.List.{List, [], _∷_}
 use Rattle.kinds.specs.Kinds.{kind-of}
 use Rattle.data_only.specs.DataOnly.{rule-names, data-only}
-use Rattle.grammar.specs.Notation.{_+, _::=_}
 use Rattle.prediction.specs.Check.{Prediction}
 use Rattle.prediction.specs.Planning.{predict}
-use Rattle.prediction.specs.PlanNotation.{`_, <_>, _▸_, _∣_, ⟦_⟧, _*, Drawn, make, Draft, draft, sketch-each}
+use Rattle.prediction.specs.PlanNotation.{`_, <_>, _▸_, _∣_, _*, Drawn, make, Draft, draft, sketch-each}
 use Rattle.prediction.specs.IdlPlans.{number-type, number-rules, union-body, sequence-plan, common}
 
 -- (217), its choices in the order of rule 39, so that the two have one plan

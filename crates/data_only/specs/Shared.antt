@@ -1,15 +1,13 @@
 -- The rules that edition 3 shares with edition 1, by their names.
--- Definitions: what is shared is computed from the plans.
+-- Computed from the plans.
 use Prim.Native.Nat.{ℕ, suc}
 use Prim.Native.String.{String}
 use mathlib.Core.List.{List, [], _∷_}
 use lib.ListN.{getD}
 use Rattle.kinds.specs.Kinds.{bytes, same, search-from}
 use Rattle.grammar.specs.Idl.{published}
-use Rattle.grammar.specs.Notation.{_+, _::=_, names, place}
-use Rattle.prediction.specs.Sets.{row}
-use Rattle.prediction.specs.Shared.{shared}
-use Rattle.prediction.specs.IdlPlans.{idl-prediction}
+use Rattle.grammar.specs.Notation.{names, place}
+use Rattle.prediction.specs.Shared.{shared-with-idl}
 use Rattle.data_only.specs.DataOnly as here
 use Rattle.data_only.specs.DataOnly.{skipped}
 use Rattle.data_only.specs.Plans.{data-only-prediction}
@@ -24,7 +22,6 @@ unfoldable pub number-here : ℕ → ℕ
 unfolding search-from same bytes names published here.published name-here
 number-here n = search-from (suc skipped) same (bytes (name-here (getD ("" ∷ names published) n ""))) (names here.published)
 
--- rules 1 to 99 of edition 1, in rounds enough
-unfoldable pub shared-with-1 : List ℕ
-unfolding shared row number-here idl-prediction data-only-prediction
-shared-with-1 = shared number-here (idl-prediction .plans) (data-only-prediction .plans) 4 (row 1 99)
+unfoldable pub shared-rules : List ℕ
+unfolding shared-with-idl number-here data-only-prediction
+shared-rules = shared-with-idl number-here (data-only-prediction .plans)

@@ -2,7 +2,7 @@
 -- Definitions, and what the test says of each frame, by one law over the list.
 use Prim.Native.Nat.{ℕ, suc, _≤_}
 use mathlib.Core.Path.{_≡_}
-use mathlib.Core.Bool.{Bool, true, not, _&&_}
+use mathlib.Core.Bool.{Bool, true, false, not, _&&_}
 use mathlib.Core.List.{List, [], _∷_}
 use native.Mathlib.Omega.{arith}
 use lib.Dec.{T, eqb, leb, T-not, eqb→eq, leb→le}
@@ -12,7 +12,7 @@ use Rattle.grammar.specs.Rule.{Edition, right-side}
 use Rattle.grammar.specs.Sets.{elem}
 use Rattle.grammar.proofs.Sets.{and-left, and-right}
 use Rattle.prediction.specs.Sets.{only, subset, disjoint}
-use Rattle.prediction.specs.Plan.{Plan, call, wrap, seq, skip}
+use Rattle.prediction.specs.Plan.{Plan, token, group, call, wrap, seq, alt, skip, many}
 use Rattle.prediction.specs.Typing.{Table, null, first, follow-last, typed, Typed}
 use Rattle.prediction.specs.Word.{Generates, produces, productive, generate}
 use Rattle.prediction.specs.RunDepth.{marked}
@@ -73,10 +73,27 @@ unfoldable pub passes : Edition → Prediction → Bool
 unfolding plans-settled rules-fit lengths-agree whole-ends
 passes E p = plans-settled p && (rules-fit E p && (lengths-agree E p && whole-ends E p))
 
+-- a plan leaves one node; where e holds, if it began with one
+unfoldable pub leaves-one : (e : Bool) → Plan → Bool
+leaves-one e (wrap r) = true
+leaves-one e (seq a b) = leaves-one (leaves-one e a) b
+leaves-one e (alt a b) = leaves-one e a && leaves-one e b
+leaves-one e (many a) = e && leaves-one false a
+leaves-one e skip = e
+leaves-one e (token k) = false
+leaves-one e (group o b c) = false
+leaves-one e (call n) = false
+
+-- each plan does, from nothing on
+unfoldable pub all-leave-one : Prediction → Bool
+unfolding every leaves-one
+all-leave-one p = every (leaves-one false) (p .plans)
+
 pub record Checked (E : Edition) : Type 0 where
   pub prediction : Prediction
   pub passed : T (passes E prediction)
   pub nested : T (nests E)
+  pub closed : T (all-leave-one prediction)
 
 module _ {E : Edition} (c : Checked E) where
   abbrev pub plans-of : List Plan
@@ -175,6 +192,10 @@ module _ {E : Edition} (c : Checked E) where
       eqb→eq (length plans-of) (length (c .prediction .ways))
       (and-right (eqb (length (E .rules)) (length (c .prediction .ways))) _
       (and-left (lengths-agree E (c .prediction)) _ ends-passed))
+
+  pub all-closed : (n : ℕ) → T (leaves-one false (table-of .plan n))
+  unfolding all-leave-one table round plan-at leaves-one
+  all-closed n = every-at (leaves-one false) plans-of (seq skip (wrap n)) tt (c .closed) n
 
   pub all-fit : T (fit-from (rule-plan E) (plan-at plans-of) 0 (c .prediction .ways))
   unfolding rules-fit

@@ -14,8 +14,8 @@ pub mod RulesAsPlans
 pub mod Weight
 pub mod Parser
 pub mod Columns
-pub mod Shared
 pub mod Check
 pub mod Planning
 pub mod PlanNotation
 pub mod IdlPlans
+pub mod Shared

@@ -2,7 +2,7 @@
 -- By induction on the plan; that the last alternative needs no test is prediction's law. Assumes nothing.
 use Prim.Native.Nat.{ℕ, zero, suc, _+_, _≤_, _<_}
 use native.Mathlib.Omega.{arith}
-use mathlib.Core.Path.{_≡_, refl, sym, _∙_, subst}
+use mathlib.Core.Path.{_≡_, refl, sym, subst}
 use mathlib.Core.Logic.{_⊎_, inl, inr, ⊎-elim}
 use mathlib.Core.Bool.{Bool, true, false, not, _&&_, _||_}
 use mathlib.Core.List.{List, [], _∷_, _++_}
@@ -10,8 +10,7 @@ use lib.Dec.{T, T-not, not-T, eqb, eqb→eq}
 use Rattle.grammar.specs.Forest.{Forest}
 use Rattle.grammar.specs.Sets.{elem}
 use Rattle.prediction.specs.Sets.{subset, disjoint, subset-in, disjoint-not, and-left, and-right, and-both, or-left}
-unfoldable pub use Rattle.prediction.specs.Sets.{row}
-use Rattle.prediction.specs.Sets.{each, each-at, or-right, or-cases, decide, elem-left, elem-right, elem-eq, eq→eqb}
+use Rattle.prediction.specs.Sets.{row, each, each-at, or-right, or-cases, decide, elem-left, elem-right, elem-eq, eq→eqb}
 use Rattle.prediction.specs.Plan.{Plan, token, group, call, wrap, seq, alt, skip, many}
 use Rattle.prediction.specs.Typing.{Table, first, null}
 use Rattle.prediction.specs.Run.{Outcome, goes, turns, Runs, run-left, run-right, run-neither, run-seq}

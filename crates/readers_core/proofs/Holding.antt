@@ -5,25 +5,16 @@ use native.Mathlib.Nat.{add-zero}
 use native.Mathlib.Omega.{arith}
 use mathlib.Core.Path.{_≡_, refl, ap, sym, _∙_}
 use mathlib.Core.Bool.{Bool, true, false, cond}
-use mathlib.Core.List.{List, [], _∷_, _++_, append-nil}
-use lib.ListN.{length, length-append}
+use mathlib.Core.List.{List, [], _∷_, _++_, append-nil, map}
+use lib.ListN.{length, length-append, length-map}
+use borrow.Table.Elements.{map-app}
 use Rattle.grammar.specs.Forest.{Forest, end, leaf, node, join, width}
 use Rattle.grammar.proofs.Forest.{width-join}
 use Rattle.grammar.specs.Record.{TreeRecord, tree-record, shape, recorded, with-parent, records}
 use Rattle.grammar.proofs.Record.{records-join}
-use Rattle.readers_core.specs.Course.{Course, coded, all-coded, noted}
+use Rattle.readers_core.specs.Course.{Course, coded, noted}
 use Rattle.readers_core.specs.Reading.{ceiling, counted, write, writes, Seen, Held}
 use Rattle.readers_core.proofs.Storing.{writes-append, write-past, writes-counted}
-
-pub coded-append : (c : ℕ → ℕ) (xs ys : List TreeRecord) → all-coded c (xs ++ ys) ≡ all-coded c xs ++ all-coded c ys
-unfolding all-coded
-coded-append c [] ys = refl
-coded-append c (x ∷ xs) ys = ap (λ (z : List TreeRecord). coded c x ∷ z) (coded-append c xs ys)
-
-pub coded-length : (c : ℕ → ℕ) (xs : List TreeRecord) → length (all-coded c xs) ≡ length xs
-unfolding all-coded
-coded-length c [] = refl
-coded-length c (x ∷ xs) = ap suc (coded-length c xs)
 
 written : {w w′ : List ℕ} {n n′ : ℕ} {x x′ : TreeRecord} → w ≡ w′ → n ≡ n′ → x ≡ x′ →
     write w n x ≡ writes w′ n′ (x′ ∷ [])
@@ -37,32 +28,32 @@ module _ (C : Course) where
   records-wrap i r f = rw (add-zero i)
 
   one-coded : (k : Bool) (r i p n m : ℕ) → n ≡ m →
-      all-coded (C .code) (cond k (tree-record r i p (suc n) ∷ []) []) ≡ cond k (tree-record (C .code r) i p (suc m) ∷ []) []
-  unfolding all-coded
+      map (coded (C .code)) (cond k (tree-record r i p (suc n) ∷ []) []) ≡ cond k (tree-record (C .code r) i p (suc m) ∷ []) []
+  unfolding coded
   one-coded true r i p n m e = rw e
   one-coded false r i p n m e = refl
 
-  pub noted-wrap : (i r : ℕ) (f : Forest) → noted C i (node end r f) ≡ noted C i f ++
+  noted-wrap : (i r : ℕ) (f : Forest) → noted C i (node end r f) ≡ noted C i f ++
       cond (recorded (C .edition) r (shape f)) (tree-record (C .code r) i (i + width f) (suc (length (noted C i f))) ∷ []) []
   unfolding noted
   noted-wrap i r f =
-      ap (all-coded (C .code)) (records-wrap i r f)
-      ∙ coded-append (C .code) (records (C .edition) i f) (cond (recorded (C .edition) r (shape f))
+      ap (map (coded (C .code))) (records-wrap i r f)
+      ∙ map-app (coded (C .code)) (records (C .edition) i f) (cond (recorded (C .edition) r (shape f))
       (tree-record r i (i + width f) (suc (length (records (C .edition) i f))) ∷ []) [])
       ∙ ap (λ (z : List TreeRecord). noted C i f ++ z)
       (one-coded (recorded (C .edition) r (shape f)) r i (i + width f) (length (records (C .edition) i f))
-      (length (noted C i f)) (sym (coded-length (C .code) (records (C .edition) i f))))
+      (length (noted C i f)) (sym (length-map (records (C .edition) i f) (coded (C .code)))))
 
   noted-join : (i : ℕ) (f g : Forest) → noted C i (join f g) ≡ noted C i f ++ noted C (i + width f) g
   unfolding noted
   noted-join i f g =
-      ap (all-coded (C .code)) (records-join (C .edition) i f g)
-      ∙ coded-append (C .code) (records (C .edition) i f) (records (C .edition) (i + width f) g)
+      ap (map (coded (C .code))) (records-join (C .edition) i f g)
+      ∙ map-app (coded (C .code)) (records (C .edition) i f) (records (C .edition) (i + width f) g)
 
 module _ {C : Course} where
   -- a frame that has read nothing
   pub held-none : (s : Seen) → s .0 .count ≤ ceiling → Held C s end s
-  unfolding width records writes noted all-coded
+  unfolding width records writes noted
   held-none s l = record { at-is = sym (add-zero (s .0 .at)); count-is = omega arith; table-is = refl }
 
   -- a token more

@@ -1,7 +1,6 @@
 pub mod Views
 pub mod Storing
 pub mod Sharing
-pub mod Editions
 pub mod Holding
 pub mod Shapes
 pub mod Sequence

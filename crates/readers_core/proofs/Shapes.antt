@@ -1,8 +1,8 @@
 -- The shape that a plan leaves: what a frame has read is nothing, one node, or more, as its plan tells.
--- By induction on the run; every plan of a rule leaves one node, by one computed test over the plans. Assumes nothing.
+-- By induction on the run; every plan of a rule leaves one node, as the test of its edition says. Assumes nothing.
 use Prim.Native.Nat.{ℕ}
 use mathlib.Core.Path.{_≡_, refl, ap, sym, _∙_, subst}
-use mathlib.Core.Bool.{Bool, true, false, not, _&&_, cond}
+use mathlib.Core.Bool.{Bool, true, false, not, cond}
 use mathlib.Core.List.{List, [], _∷_, _++_}
 use mathlib.Core.Logic.{_⊎_, ⊎-elim}
 use lib.Dec.{T, eqb, eqb→eq}
@@ -16,10 +16,9 @@ use Rattle.prediction.specs.Plan.{Plan, token, group, call, wrap, seq, alt, ski
 use Rattle.prediction.specs.Run.{done, stopped, Runs, run-token, run-inside, run-group, run-call}
 use Rattle.prediction.specs.Run.{run-call-stop, run-wrap, run-seq, run-seq-stop, run-left, run-right}
 use Rattle.prediction.specs.Run.{run-skip, run-last, run-more, run-more-stop}
-use Rattle.prediction.specs.Columns.{plan-at, round, every-at}
-use Rattle.prediction.specs.Check.{table, plans-of}
+use Rattle.prediction.specs.Check.{leaves-one, all-closed}
 use Rattle.prediction.specs.Renaming.{renamed}
-use Rattle.readers_core.specs.Course.{Course, Shares, leaves-one, table-in}
+use Rattle.readers_core.specs.Course.{Course, Shares, table-in}
 use Rattle.readers_core.specs.Reading.{all-recorded, none-recorded}
 use Rattle.readers_core.proofs.Sharing.{recorded-shared}
 
@@ -51,10 +50,6 @@ shape-join (node (node f k′ e′) k e) (node end r c) = refl
 shape-join (node (node f k′ e′) k e) (node (leaf g l) r c) = refl
 shape-join (node (node f k′ e′) k e) (node (node g r′ c′) r c) = refl
 
-plan-leaves-one : (C : Course) (n : ℕ) → T (leaves-one false (table-in C .plan n))
-unfolding table round plan-at leaves-one
-plan-leaves-one C n = every-at (leaves-one false) (plans-of (C .checked)) (seq skip (wrap n)) tt (C .closes) n
-
 closed : (C : Course) {s : ℕ → ℕ} {d i j : ℕ} {p : Plan} {f g : Forest} (e : Bool) → T (leaves-one e p) →
     (T e → shape f ≡ 1) → Runs (table-in C) s d p i f (done j g) → shape g ≡ 1
 unfolding leaves-one shape stopped
@@ -77,7 +72,7 @@ closed C e u h (run-call-stop r z) = absurd u
 -- a rule leaves one node
 pub one-node : (C : Course) {s : ℕ → ℕ} {d i j : ℕ} (n : ℕ) {g : Forest} →
     Runs (table-in C) s d (table-in C .plan n) i end (done j g) → shape g ≡ 1
-one-node C n r = closed C false (plan-leaves-one C n) (λ z. absurd z) r
+one-node C n r = closed C false (all-closed (C .checked) n) (λ z. absurd z) r
 
 -- the shapes with a node more
 unfoldable pub one-more : List ℕ → List ℕ

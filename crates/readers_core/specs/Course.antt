@@ -1,39 +1,24 @@
 -- A course: an edition as readers follow it, with its plans and the number that readers write for each of its rules; and which
--- courses share rules. Assumes nothing: definitions, and one computed test for each edition.
+-- courses share rules. Assumes nothing: these are definitions.
 use Prim.Native.Nat.{ℕ}
 use mathlib.Core.Path.{_≡_}
-use mathlib.Core.Bool.{Bool, true, false, _&&_}
-use mathlib.Core.List.{List, [], _∷_}
+use mathlib.Core.Bool.{Bool}
+use mathlib.Core.List.{List, map}
 use lib.Dec.{T}
 use Rattle.grammar.specs.Forest.{Forest}
 use Rattle.grammar.specs.Idl.{idl}
 use Rattle.grammar.specs.Record.{TreeRecord, tree-record, records}
 use Rattle.grammar.specs.Rule.{Edition}
 use Rattle.grammar.specs.Sets.{elem}
-use Rattle.prediction.specs.Plan.{Plan, token, group, call, wrap, seq, alt, skip, many}
 use Rattle.prediction.specs.Renaming.{Inside, renamed, as-it-is}
 use Rattle.prediction.specs.Typing.{Table}
-use Rattle.prediction.specs.Columns.{every}
-use Rattle.prediction.specs.Check.{Checked, table-of, plans-of}
-use Rattle.prediction.specs.IdlPlans.{idl-prediction}
+use Rattle.prediction.specs.Check.{Checked, table-of}
 use Rattle.prediction.proofs.IdlChecked.{idl-checked}
 
--- a plan leaves one node; where e holds, if it began with one
-unfoldable pub leaves-one : (e : Bool) → Plan → Bool
-leaves-one e (wrap r) = true
-leaves-one e (seq a b) = leaves-one (leaves-one e a) b
-leaves-one e (alt a b) = leaves-one e a && leaves-one e b
-leaves-one e (many a) = e && leaves-one false a
-leaves-one e skip = e
-leaves-one e (token k) = false
-leaves-one e (group o b c) = false
-leaves-one e (call n) = false
-
--- an edition that passes its test, each plan of which leaves one node; readers write `code r` for its rule r
+-- an edition that passes its test; readers write `code r` for its rule r
 pub record Course : Type 0 where
   pub edition : Edition
   pub checked : Checked edition
-  pub closes : T (every (leaves-one false) (plans-of checked))
   pub code : ℕ → ℕ
 
 abbrev pub table-in : Course → Table
@@ -43,15 +28,10 @@ table-in C = table-of (C .checked)
 unfoldable pub coded : (code : ℕ → ℕ) → TreeRecord → TreeRecord
 coded code (tree-record rule first past size) = tree-record (code rule) first past size
 
-unfoldable pub all-coded : (code : ℕ → ℕ) → List TreeRecord → List TreeRecord
-unfolding coded
-all-coded code [] = []
-all-coded code (r ∷ rs) = coded code r ∷ all-coded code rs
-
 -- what readers write for a forest whose first token is number i
 unfoldable pub noted : Course → ℕ → Forest → List TreeRecord
-unfolding all-coded
-noted C i f = all-coded (C .code) (records (C .edition) i f)
+unfolding coded
+noted C i f = map (coded (C .code)) (records (C .edition) i f)
 
 -- course C has the rules of course R for which `rule` holds, each by its number there: the same plan, which names shared rules
 -- alone, recorded always in both or in neither, and written by readers as the same number
@@ -63,10 +43,6 @@ pub record Shares (R C : Course) : Type 0 where
   pub same-always : (n : ℕ) → T (rule n) → elem (number n) (C .edition .always) ≡ elem n (R .edition .always)
   pub same-code : (n : ℕ) → T (rule n) → C .code (number n) ≡ R .code n
 
--- edition 1
-pub one-closes : T (every (leaves-one false) (plans-of idl-checked))
-unfolding every leaves-one idl-prediction
-one-closes = tt
-
+-- edition 1: readers write the numbers of its rules
 abbrev pub one : Course
-one = record { edition = idl; checked = idl-checked; closes = one-closes; code = as-it-is }
+one = record { edition = idl; checked = idl-checked; code = as-it-is }

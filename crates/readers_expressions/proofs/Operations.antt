@@ -1,6 +1,5 @@
 -- What each level of binary operators is, by its number; what the level of a kind tells; and an operator of a level with its
 -- right operand, where it is next. The six levels are computed. Assumes nothing.
-use Rattle.grammar.specs.Idl.{idl}
 use Prim.Native.Nat.{ℕ, zero, suc, _+_, _≤_, _<_}
 use native.Mathlib.Omega.{arith}
 use mathlib.Core.Path.{_≡_, refl, sym, _∙_, subst}

@@ -3,7 +3,6 @@
 use Prim.Native.Nat.{ℕ}
 use mathlib.Core.Path.{refl, ap}
 use mathlib.Core.List.{List, []}
-use Rattle.grammar.specs.Idl.{idl}
 use Rattle.prediction.specs.Plan.{Plan, call}
 use Rattle.prediction.specs.Columns.{plan-at, round}
 use Rattle.prediction.specs.Check.{table}

@@ -27,7 +27,7 @@ use Rattle.meaning.specs.Verdict.{Verdict, verdict}
 use Rattle.meaning.specs.Answer.{tree-reply, tree-after}
 use Rattle.meaning.specs.Calls.{first-records}
 use Rattle.verdicts.proofs.Outcomes.{of-outcome, outcome-verdict}
-use Rattle.readers_core.specs.Course.{Course, coded, all-coded, noted, table-in}
+use Rattle.readers_core.specs.Course.{Course, coded, noted, table-in}
 use Rattle.readers_core.specs.Reading.{Reading, view, ceiling, write, writes, nothing, Held, Ends, ends-done, ends-blame}
 use Rattle.readers_core.specs.Reading.{ends-deep, Reads}
 use Rattle.readers_core.proofs.Holding.{held-none}
@@ -45,8 +45,8 @@ writes-stored w n (tree-record a b c d ∷ rs) h =
     ∙ ap (λ (v : List ℕ). store node-width v (suc n) (map numbers rs)) (sym (write-below w a (omega arith) refl refl refl refl))
 
 -- where readers write the numbers of the rules themselves, what they write are the records
-coded-plain : (code : ℕ → ℕ) → ((r : ℕ) → code r ≡ r) → (rs : List TreeRecord) → all-coded code rs ≡ rs
-unfolding all-coded coded
+coded-plain : (code : ℕ → ℕ) → ((r : ℕ) → code r ≡ r) → (rs : List TreeRecord) → map (coded code) rs ≡ rs
+unfolding coded
 coded-plain code e [] = refl
 coded-plain code e (tree-record a b c d ∷ rs) = rw (e a, coded-plain code e rs)
 

@@ -1,6 +1,5 @@
 -- The readers of expressions, which call each other, meet their contracts: each reads its rule as its plan is.
 -- The remaining depth falls at "(", and below it the level rises to (36), then unary and primary. Assumes nothing.
-use Rattle.grammar.specs.Idl.{idl}
 use Rattle.prediction.specs.Check.{table}
 use Rattle.prediction.specs.Columns.{plan-at, round}
 use Rattle.prediction.specs.IdlPlans.{idl-prediction}

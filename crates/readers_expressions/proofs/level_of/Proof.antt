@@ -1,6 +1,7 @@
 -- `level_of` tells the level that a kind is an operator of.
 -- The operators are the kinds from 77 to 86, and those of a level stand in a row. Assumes nothing.
-use Rattle.readers_core.proofs.Choosing.{any-elem, any-row, row}
+use Rattle.readers_core.proofs.Choosing.{any-elem, any-row}
+use Rattle.prediction.specs.Sets.{row}
 use Rattle.readers_expressions.proofs.Operations.{at-level, of-level, outside}
 use Rattle.readers_expressions.specs.Levels.{level-of, operators}
 use mathlib.Core.Logic.{inl, inr}

@@ -1,6 +1,5 @@
 -- `positive_int_const` reads rule 41, which passes the node of rule 29 on.
 -- One nonterminal alone leaves no record. Assumes nothing.
-use Rattle.grammar.specs.Idl.{idl}
 use Rattle.prediction.specs.Check.{table}
 use Rattle.prediction.specs.Columns.{plan-at, round}
 use Rattle.prediction.specs.IdlPlans.{idl-prediction}

@@ -1,6 +1,5 @@
 -- `interface` reads by its plan: ":" or "{" tells that a body is there, and else the declaration is a forward one.
 -- What the plan comes to is what was called; rule 4 leaves no record. Assumes nothing.
-use Rattle.grammar.specs.Idl.{idl}
 use Rattle.prediction.specs.Check.{table}
 use Rattle.prediction.specs.Columns.{plan-at, round}
 use Rattle.prediction.specs.IdlPlans.{idl-prediction}

@@ -1,6 +1,5 @@
 -- `scoped_names` reads names with commas between them, by any rule that is a scoped name alone: such a rule leaves no record.
 -- The part read so far as a continuation; what is left to read falls. Assumes nothing.
-use Rattle.grammar.specs.Idl.{idl}
 use Prim.Native.Nat.{ℕ}
 use Rattle.prediction.specs.Check.{table}
 use Rattle.prediction.specs.Columns.{plan-at, round}

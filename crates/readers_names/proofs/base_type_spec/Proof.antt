@@ -1,6 +1,5 @@
 -- `base_type_spec` reads rule 46: a number type in a frame of its own, or a rule of one word, whose node is passed on.
 -- The kind ahead tells which. Assumes nothing.
-use Rattle.grammar.specs.Idl.{idl}
 use Rattle.prediction.specs.Check.{table}
 use Rattle.prediction.specs.Columns.{plan-at, round}
 use Rattle.prediction.specs.IdlPlans.{idl-prediction}

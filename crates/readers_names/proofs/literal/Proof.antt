@@ -1,12 +1,12 @@
 -- `literal` reads rule 39: one token or a string literal in a frame of its own, or a boolean literal, whose node is passed on.
 -- A choice takes the token that is there, strings by their kind; else the last alternative is read. Assumes nothing.
-use Rattle.grammar.specs.Idl.{idl}
 use Prim.Native.Nat.{ℕ}
 use Rattle.prediction.specs.Check.{table}
 use Rattle.prediction.specs.Columns.{plan-at, round}
 use Rattle.prediction.specs.IdlPlans.{idl-prediction}
 use Rattle.prediction.specs.Plan.{Plan, call, seq, wrap}
-use Rattle.readers_core.proofs.Choosing.{AnyOf, Knows, among, any-row, choose, except, none-row, one-of, row}
+use Rattle.readers_core.proofs.Choosing.{AnyOf, Knows, among, any-row, choose, except, none-row, one-of}
+use Rattle.prediction.specs.Sets.{row}
 use Rattle.readers_core.proofs.Frames.{frame, frame-on, passed-on, taken-of}
 use Rattle.readers_core.proofs.Sequence.{_▸_}
 use Rattle.readers_core.proofs.Shapes.{leaves}

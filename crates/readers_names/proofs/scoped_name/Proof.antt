@@ -1,6 +1,5 @@
 -- `scoped_name` reads rule 12: a frame of its own with its first name as a node, and a node for each further step.
 -- Its calls are put together as its plan is. Assumes nothing.
-use Rattle.grammar.specs.Idl.{idl}
 use Rattle.prediction.specs.Check.{table}
 use Rattle.prediction.specs.Columns.{plan-at, round}
 use Rattle.prediction.specs.IdlPlans.{idl-prediction}

@@ -4,7 +4,6 @@ use Rattle.readers_core.proofs.Frames.{frame-by}
 use Rattle.readers_core.proofs.Sequence.{_▸_}
 use Rattle.readers_core.proofs.Shapes.{leaves}
 use Rattle.readers_core.specs.Reading.{all-recorded, none-recorded}
-use mathlib.Core.Path.{refl}
 use borrow.Author.Needs.{needs}
 use Rattle.readers_names.proofs.word.Statement.{statement}
 use Rattle.readers_names.proofs.word.Tie as tie

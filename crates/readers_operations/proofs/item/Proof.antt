@@ -1,6 +1,5 @@
 -- `item` reads the rule that it is asked for.
 -- One of three rules, by its number. Assumes nothing.
-use Rattle.grammar.specs.Idl.{idl}
 use Rattle.prediction.specs.Check.{table}
 use Rattle.prediction.specs.Columns.{plan-at, round}
 use Rattle.prediction.specs.IdlPlans.{idl-prediction}

@@ -1,6 +1,5 @@
 -- `op_type_spec` reads rule 89: "void" in a frame of its own, or a type, whose node is passed on.
 -- The kind ahead tells which. Assumes nothing.
-use Rattle.grammar.specs.Idl.{idl}
 use Rattle.prediction.specs.Check.{table}
 use Rattle.prediction.specs.Columns.{plan-at, round}
 use Rattle.prediction.specs.IdlPlans.{idl-prediction}

@@ -1,6 +1,5 @@
 -- `param_attribute` reads rule 92 in a frame of its own: the kind ahead is one that the rule takes, or the first is asked for.
 -- Its calls are put together as its plan is. Assumes nothing.
-use Rattle.grammar.specs.Idl.{idl}
 use Rattle.prediction.specs.Check.{table}
 use Rattle.prediction.specs.Columns.{plan-at, round}
 use Rattle.prediction.specs.IdlPlans.{idl-prediction}
@@ -8,7 +7,6 @@ use Rattle.readers_core.proofs.Choosing.{Knows, among, choose, except, one-of}
 use Rattle.readers_core.proofs.Frames.{chosen, frame, taken-of}
 use Rattle.readers_core.proofs.Sequence.{_▸_}
 use Rattle.readers_core.proofs.Shapes.{leaves}
-use Rattle.readers_core.specs.Course.{one}
 use Rattle.readers_core.specs.Reading.{all-recorded, none-recorded}
 use mathlib.Core.Path.{refl}
 use borrow.Author.Needs.{needs}

@@ -1,6 +1,5 @@
 -- Types hold members that hold types: type, struct, member and union readers call each other, each by its plan.
 -- Remaining depth falls at each opening mark, and else the measure by the reader's rank. Assumes nothing.
-use Rattle.grammar.specs.Idl.{idl}
 use Rattle.prediction.specs.Check.{table}
 use Rattle.prediction.specs.Columns.{plan-at, round}
 use Rattle.prediction.specs.IdlPlans.{idl-prediction}

@@ -1,6 +1,5 @@
 -- `type_dcl` reads rule 42: the kind ahead tells the choice.
 -- A typedef or native type has a record of its own; else the node of what is declared is passed on. Assumes nothing.
-use Rattle.grammar.specs.Idl.{idl}
 use Rattle.prediction.specs.Check.{table}
 use Rattle.prediction.specs.Columns.{plan-at, round}
 use Rattle.prediction.specs.IdlPlans.{idl-prediction}

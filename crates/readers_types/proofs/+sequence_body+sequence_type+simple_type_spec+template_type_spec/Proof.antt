@@ -1,6 +1,5 @@
 -- A sequence holds a simple type, which may be a sequence: four readers that call each other, each by its plan.
 -- Remaining depth falls at the opening mark of a sequence, and else the measure by the reader's rank. Assumes nothing.
-use Rattle.grammar.specs.Idl.{idl}
 use Rattle.prediction.specs.Check.{table}
 use Rattle.prediction.specs.Columns.{plan-at, round}
 use Rattle.prediction.specs.IdlPlans.{idl-prediction}

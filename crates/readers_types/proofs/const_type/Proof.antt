@@ -1,6 +1,5 @@
 -- `const_type` reads rule 28: a number type in a frame of its own, or another rule, whose node is passed on.
 -- The kind ahead tells which. Assumes nothing.
-use Rattle.grammar.specs.Idl.{idl}
 use Rattle.prediction.specs.Check.{table}
 use Rattle.prediction.specs.Columns.{plan-at, round}
 use Rattle.prediction.specs.IdlPlans.{idl-prediction}

@@ -1,6 +1,5 @@
 -- `enumerators` reads enumerators at one level of depth less.
 -- The opening mark, and behind it the body and the closing mark. Assumes nothing.
-use Rattle.grammar.specs.Idl.{idl}
 use Rattle.prediction.specs.Check.{table}
 use Rattle.prediction.specs.Columns.{plan-at, round}
 use Rattle.prediction.specs.IdlPlans.{idl-prediction}

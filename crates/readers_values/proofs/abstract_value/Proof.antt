@@ -1,6 +1,5 @@
 -- `abstract_value` reads by its plan: ":" or "supports" or "{" tells that a body is there, and else it is a forward one.
 -- What the plan comes to is what was called; rule 13 leaves no record. Assumes nothing.
-use Rattle.grammar.specs.Idl.{idl}
 use Rattle.prediction.specs.Check.{table}
 use Rattle.prediction.specs.Columns.{plan-at, round}
 use Rattle.prediction.specs.IdlPlans.{idl-prediction}

@@ -1,6 +1,5 @@
 -- `bases` reads by its plan: ":" or "supports" tells that bases are there; else nothing is read, and no record is written.
 -- What the plan comes to is what was called. Assumes nothing.
-use Rattle.grammar.specs.Idl.{idl}
 use Rattle.prediction.specs.Check.{table}
 use Rattle.prediction.specs.Columns.{plan-at, round}
 use Rattle.prediction.specs.IdlPlans.{idl-prediction}

@@ -1,6 +1,5 @@
 -- `behind_name` reads by its plan: a type, ":" or "supports" or "{", or none of these behind the name.
 -- What the plan comes to is what was called. Assumes nothing.
-use Rattle.grammar.specs.Idl.{idl}
 use Rattle.prediction.specs.Check.{table}
 use Rattle.prediction.specs.Columns.{plan-at, round}
 use Rattle.prediction.specs.IdlPlans.{idl-prediction}

@@ -1,6 +1,5 @@
 -- `further_parameters` reads further parameters: each turn is one more, and they end where no comma stands ahead.
 -- The part read so far as a continuation; what is left to read falls. Assumes nothing.
-use Rattle.grammar.specs.Idl.{idl}
 use Rattle.prediction.specs.Check.{table}
 use Rattle.prediction.specs.Columns.{plan-at, round}
 use Rattle.prediction.specs.IdlPlans.{idl-prediction}

@@ -1,6 +1,5 @@
 -- `init_param_decls` reads rule 24 in a frame of its own: a comma tells whether there are further parameters.
 -- With them the repetition reads one at least and the rule is recorded; without them it is not. Assumes nothing.
-use Rattle.grammar.specs.Idl.{idl}
 use Rattle.prediction.specs.Check.{table}
 use Rattle.prediction.specs.Columns.{plan-at, round}
 use Rattle.prediction.specs.IdlPlans.{idl-prediction}

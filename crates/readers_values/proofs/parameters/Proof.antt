@@ -1,6 +1,5 @@
 -- `parameters` reads by its plan: "in" tells that parameters are there.
 -- What the plan comes to is what was called. Assumes nothing.
-use Rattle.grammar.specs.Idl.{idl}
 use Rattle.prediction.specs.Check.{table}
 use Rattle.prediction.specs.Columns.{plan-at, round}
 use Rattle.prediction.specs.IdlPlans.{idl-prediction}

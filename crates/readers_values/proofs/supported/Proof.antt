@@ -1,6 +1,5 @@
 -- `supported` reads by its plan: "supports" tells that interfaces are there.
 -- What the plan comes to is what was called. Assumes nothing.
-use Rattle.grammar.specs.Idl.{idl}
 use Rattle.prediction.specs.Check.{table}
 use Rattle.prediction.specs.Columns.{plan-at, round}
 use Rattle.prediction.specs.IdlPlans.{idl-prediction}

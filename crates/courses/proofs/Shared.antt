@@ -1,5 +1,5 @@
 -- What is read by the plans of edition 1 is read in editions 2 and 3, wherever it names rules that they share with it.
--- By the law that carries a reading over to a course that shares the rules; what is shared is computed.
+-- By the law that carries a reading over to a course that shares the rules; that they are shared is computed.
 use Prim.Native.Nat.{ℕ}
 use mathlib.Core.Path.{_≡_, refl, subst}
 use mathlib.Core.Bool.{Bool, true, false, not, _&&_, cond}
@@ -8,7 +8,7 @@ use lib.Dec.{T, eqb, eqb→eq}
 use Rattle.grammar.specs.Idl.{idl}
 use Rattle.grammar.specs.Sets.{elem}
 use Rattle.grammar.proofs.Sets.{and-left, and-right}
-use Rattle.prediction.specs.Plan.{Plan}
+use Rattle.prediction.specs.Plan.{Plan, call}
 use Rattle.prediction.specs.Renaming.{renamed, inside, inside-holds, as-it-is, renamed-same}
 use Rattle.prediction.specs.Sets.{each, each-at}
 use Rattle.prediction.specs.Shared.{agrees, plan-same, plan-inside}
@@ -16,15 +16,15 @@ use Rattle.prediction.specs.Columns.{round}
 use Rattle.prediction.specs.Check.{table, plans-of}
 use Rattle.components.specs.Components.{components}
 use Rattle.components.specs.Shared as second
-use Rattle.components.proofs.Shared.{shared-agree}
+use Rattle.components.proofs.Shared as second-agrees
 use Rattle.data_only.specs.DataOnly.{data-only}
 use Rattle.data_only.specs.Shared as third
 use Rattle.data_only.specs.Shared.{number-here}
-use Rattle.data_only.proofs.Shared as third-proofs
+use Rattle.data_only.proofs.Shared as third-agrees
 use Rattle.readers_core.specs.Course.{Course, Shares, one}
-use Rattle.readers_core.specs.Editions.{two, three, code-3}
-use Rattle.readers_core.specs.Reading.{State, Reads}
+use Rattle.readers_core.specs.Reading.{State, From, Flat}
 use Rattle.readers_core.proofs.Sharing.{carried}
+use Rattle.courses.specs.Courses.{two, three, code-3}
 
 -- rule n of the course R is recorded always where its fellow in C is, and written as the same number
 unfoldable pub kept-alike : (R C : Course) (number : ℕ → ℕ) → ℕ → Bool
@@ -63,33 +63,41 @@ module _ (R C : Course) (number : ℕ → ℕ) (S : List ℕ) (agree : T (each (
         (and-right (cond b a (not a)) (eqb (C .code (number n)) (R .code n)) (kept-at n v));
   }
 
-kept-in-two : T (each (kept-alike one two as-it-is) second.shared-with-1)
-unfolding each kept-alike second.shared-with-1 idl components
+kept-in-two : T (each (kept-alike one two as-it-is) second.shared-rules)
+unfolding each kept-alike second.shared-rules idl components
 kept-in-two = tt
 
-kept-in-three : T (each (kept-alike one three number-here) third.shared-with-1)
-unfolding each kept-alike number-here third.shared-with-1 code-3 idl data-only
+kept-in-three : T (each (kept-alike one three number-here) third.shared-rules)
+unfolding each kept-alike number-here third.shared-rules code-3 idl data-only
 kept-in-three = tt
 
--- edition 2, by the same numbers
-pub two-shares : Shares one two
+two-shares : Shares one two
 unfolding shares
-two-shares = shares one two as-it-is second.shared-with-1 shared-agree kept-in-two
+two-shares = shares one two as-it-is second.shared-rules second-agrees.shared-agree kept-in-two
 
-pub in-two : {ks : List ℕ} {d : ℕ} (p : Plan) {s s′ : State} → T (inside second.shared-with-1 p) → Reads one ks d p s s′ →
-    Reads two ks d p s s′
-unfolding two-shares shares
-in-two {ks} {d} p {s} {s′} u x =
-    subst (λ (q : Plan). Reads two ks d q s s′) (renamed-same p)
-    (record { in-any = λ start hs. carried two-shares (inside-holds second.shared-with-1 p u) (x .in-any start hs) })
-
--- edition 3, by its own
-pub three-shares : Shares one three
+three-shares : Shares one three
 unfolding shares
-three-shares = shares one three number-here third.shared-with-1 third-proofs.shared-agree kept-in-three
+three-shares = shares one three number-here third.shared-rules third-agrees.shared-agree kept-in-three
 
-pub in-three : {ks : List ℕ} {d : ℕ} (p : Plan) {s s′ : State} → T (inside third.shared-with-1 p) → Reads one ks d p s s′ →
-    Reads three ks d (renamed number-here p) s s′
-unfolding three-shares shares
-in-three p u x =
-    record { in-any = λ start hs. carried three-shares (inside-holds third.shared-with-1 p u) (x .in-any start hs) }
+module _ {ks : List ℕ} {d start : ℕ} {hs : List ℕ} (p : Plan) {s s′ : State} where
+  -- edition 2, by the same numbers
+  pub in-two : T (inside second.shared-rules p) → From one ks d start hs p s s′ → From two ks d start hs p s s′
+  unfolding two-shares shares
+  in-two u x =
+      subst (λ (q : Plan). From two ks d start hs q s s′) (renamed-same p)
+      (carried two-shares (inside-holds second.shared-rules p u) x)
+
+  -- edition 3, by its own
+  pub in-three : T (inside third.shared-rules p) → From one ks d start hs p s s′ →
+      From three ks d start hs (renamed number-here p) s s′
+  unfolding three-shares shares
+  in-three u x = carried three-shares (inside-holds third.shared-rules p u) x
+
+-- so whatever reads rule 12 as `scoped_name` does reads rule 12 of edition 2 and rule 204 of edition 3
+pub scoped-names : {ks : List ℕ} {s s′ : State} → Flat one ks (call 12) s s′ →
+    Flat two ks (call 12) s s′ × Flat three ks (call 204) s s′
+unfolding inside renamed number-here second.shared-rules third.shared-rules
+scoped-names x = (
+  record { at-any = λ d. record { in-any = λ start hs. in-two (call 12) tt (x .at-any d .in-any start hs) } },
+  record { at-any = λ d. record { in-any = λ start hs. in-three (call 12) tt (x .at-any d .in-any start hs) } },
+)

@@ -1,0 +1,30 @@
+-- The courses of editions 2 and 3.
+-- Assumes nothing: these are definitions.
+use Prim.Native.Nat.{ℕ}
+use mathlib.Core.Bool.{cond}
+use mathlib.Core.List.{List, [], _∷_}
+use lib.Dec.{eqb}
+use Rattle.prediction.specs.Renaming.{as-it-is}
+use Rattle.components.specs.Components.{components}
+use Rattle.components.proofs.Checked.{components-checked}
+use Rattle.data_only.specs.DataOnly.{data-only}
+use Rattle.data_only.specs.Shared.{number-here, shared-rules}
+use Rattle.data_only.proofs.Checked.{data-only-checked}
+use Rattle.readers_core.specs.Course.{Course}
+
+-- readers write the numbers of its rules
+abbrev pub two : Course
+two = record { edition = components; checked = components-checked; code = as-it-is }
+
+-- for a rule that edition 3 shares with edition 1 readers write the number there
+unfoldable pub written-as : (ns : List ℕ) (r : ℕ) → ℕ
+unfolding number-here
+written-as [] r = r
+written-as (n ∷ ns) r = cond (eqb (number-here n) r) n (written-as ns r)
+
+unfoldable pub code-3 : ℕ → ℕ
+unfolding written-as shared-rules
+code-3 = written-as shared-rules
+
+abbrev pub three : Course
+three = record { edition = data-only; checked = data-only-checked; code = code-3 }
