@@ -3,21 +3,16 @@
 use lib.Dec.{T}
 use Rattle.components.proofs.Facts.{components-facts}
 use Rattle.components.specs.Components.{components}
-use Rattle.prediction.specs.Check.{passes, all-leave-one, Checked}
+use Rattle.prediction.specs.Check.{passes, Checked}
 use Rattle.components.specs.Plans.{components-prediction}
 
 pub components-passes : T (passes components components-prediction)
 unfolding passes components components-prediction
 components-passes = tt
 
-pub components-closes : T (all-leave-one components-prediction)
-unfolding all-leave-one components-prediction
-components-closes = tt
-
 abbrev pub components-checked : Checked components
 components-checked = record {
   prediction = components-prediction;
   passed = components-passes;
   nested = components-facts .rules-nest;
-  closed = components-closes;
 }

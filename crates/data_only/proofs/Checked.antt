@@ -3,21 +3,16 @@
 use lib.Dec.{T}
 use Rattle.data_only.proofs.Facts.{data-only-facts}
 use Rattle.data_only.specs.DataOnly.{data-only}
-use Rattle.prediction.specs.Check.{passes, all-leave-one, Checked}
+use Rattle.prediction.specs.Check.{passes, Checked}
 use Rattle.data_only.specs.Plans.{data-only-prediction}
 
 pub data-only-passes : T (passes data-only data-only-prediction)
 unfolding passes data-only data-only-prediction
 data-only-passes = tt
 
-pub data-only-closes : T (all-leave-one data-only-prediction)
-unfolding all-leave-one data-only-prediction
-data-only-closes = tt
-
 abbrev pub data-only-checked : Checked data-only
 data-only-checked = record {
   prediction = data-only-prediction;
   passed = data-only-passes;
   nested = data-only-facts .rules-nest;
-  closed = data-only-closes;
 }

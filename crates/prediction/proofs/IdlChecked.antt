@@ -3,16 +3,12 @@
 use lib.Dec.{T}
 use Rattle.grammar.proofs.Facts.{idl-facts}
 use Rattle.grammar.specs.Idl.{idl}
-use Rattle.prediction.specs.Check.{passes, all-leave-one, Checked}
+use Rattle.prediction.specs.Check.{passes, Checked}
 use Rattle.prediction.specs.IdlPlans.{idl-prediction}
 
 pub idl-passes : T (passes idl idl-prediction)
 unfolding passes idl idl-prediction
 idl-passes = tt
 
-pub idl-closes : T (all-leave-one idl-prediction)
-unfolding all-leave-one idl-prediction
-idl-closes = tt
-
 abbrev pub idl-checked : Checked idl
-idl-checked = record { prediction = idl-prediction; passed = idl-passes; nested = idl-facts .rules-nest; closed = idl-closes }
+idl-checked = record { prediction = idl-prediction; passed = idl-passes; nested = idl-facts .rules-nest }

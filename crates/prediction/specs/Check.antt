@@ -69,10 +69,6 @@ unfolding follow-last table elem caps
 whole-ends E p =
     not (elem 0 (follow-last (table p) (call (E .start)))) && leb (caps (p .plans) (suc rounds) (E .start)) 1000
 
-unfoldable pub passes : Edition → Prediction → Bool
-unfolding plans-settled rules-fit lengths-agree whole-ends
-passes E p = plans-settled p && (rules-fit E p && (lengths-agree E p && whole-ends E p))
-
 -- a plan leaves one node; where e holds, if it began with one
 unfoldable pub leaves-one : (e : Bool) → Plan → Bool
 leaves-one e (wrap r) = true
@@ -89,11 +85,14 @@ unfoldable pub all-leave-one : Prediction → Bool
 unfolding every leaves-one
 all-leave-one p = every (leaves-one false) (p .plans)
 
+unfoldable pub passes : Edition → Prediction → Bool
+unfolding plans-settled rules-fit lengths-agree whole-ends all-leave-one
+passes E p = plans-settled p && (rules-fit E p && (all-leave-one p && (lengths-agree E p && whole-ends E p)))
+
 pub record Checked (E : Edition) : Type 0 where
   pub prediction : Prediction
   pub passed : T (passes E prediction)
   pub nested : T (nests E)
-  pub closed : T (all-leave-one prediction)
 
 module _ {E : Edition} (c : Checked E) where
   abbrev pub plans-of : List Plan
@@ -106,12 +105,16 @@ module _ {E : Edition} (c : Checked E) where
   unfolding passes
   settled-passed = and-left (plans-settled (c .prediction)) _ (c .passed)
 
-  fit-passed : T (rules-fit E (c .prediction) && (lengths-agree E (c .prediction) && whole-ends E (c .prediction)))
+  fit-passed : T (rules-fit E (c .prediction) && (all-leave-one (c .prediction) &&
+      (lengths-agree E (c .prediction) && whole-ends E (c .prediction))))
   unfolding passes
   fit-passed = and-right (plans-settled (c .prediction)) _ (c .passed)
 
+  closed-passed : T (all-leave-one (c .prediction) && (lengths-agree E (c .prediction) && whole-ends E (c .prediction)))
+  closed-passed = and-right (rules-fit E (c .prediction)) _ fit-passed
+
   ends-passed : T (lengths-agree E (c .prediction) && whole-ends E (c .prediction))
-  ends-passed = and-right (rules-fit E (c .prediction)) _ fit-passed
+  ends-passed = and-right (all-leave-one (c .prediction)) _ closed-passed
 
   frames-of : T (plans-settled (c .prediction)) → T (every (frame-test (c .prediction)) plans-of)
   unfolding plans-settled
@@ -195,7 +198,8 @@ module _ {E : Edition} (c : Checked E) where
 
   pub all-closed : (n : ℕ) → T (leaves-one false (table-of .plan n))
   unfolding all-leave-one table round plan-at leaves-one
-  all-closed n = every-at (leaves-one false) plans-of (seq skip (wrap n)) tt (c .closed) n
+  all-closed n =
+      every-at (leaves-one false) plans-of (seq skip (wrap n)) tt (and-left (all-leave-one (c .prediction)) _ closed-passed) n
 
   pub all-fit : T (fit-from (rule-plan E) (plan-at plans-of) 0 (c .prediction .ways))
   unfolding rules-fit
