@@ -1,3 +1,2 @@
 pub mod Components
 pub mod Plans
-pub mod Shared

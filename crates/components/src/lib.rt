@@ -1,1 +1,1 @@
-// Edition 2, the components: its rules in specs/Components.antt, its plans, and what it shares with edition 1. No code.
+// Edition 2, the components: its rules in specs/Components.antt, facts on them, its plans and its test. No code.

@@ -1,103 +1,30 @@
--- What is read by the plans of edition 1 is read in editions 2 and 3, wherever it names rules that they share with it.
--- By the law that carries a reading over to a course that shares the rules; that they are shared is computed.
-use Prim.Native.Nat.{ℕ}
-use mathlib.Core.Path.{_≡_, refl, subst}
-use mathlib.Core.Bool.{Bool, true, false, not, _&&_, cond}
-use mathlib.Core.List.{List}
-use lib.Dec.{T, eqb, eqb→eq}
-use Rattle.grammar.specs.Idl.{idl}
-use Rattle.grammar.specs.Sets.{elem}
-use Rattle.grammar.proofs.Sets.{and-left, and-right}
-use Rattle.prediction.specs.Plan.{Plan, call}
-use Rattle.prediction.specs.Renaming.{renamed, inside, inside-holds, as-it-is, renamed-same}
-use Rattle.prediction.specs.Sets.{each, each-at}
-use Rattle.prediction.specs.Shared.{agrees, plan-same, plan-inside}
-use Rattle.prediction.specs.Columns.{round}
-use Rattle.prediction.specs.Check.{table, plans-of}
-use Rattle.components.specs.Components.{components}
-use Rattle.components.specs.Shared as second
-use Rattle.components.proofs.Shared as second-agrees
-use Rattle.data_only.specs.DataOnly.{data-only}
-use Rattle.data_only.specs.Shared as third
-use Rattle.data_only.specs.Shared.{number-here}
-use Rattle.data_only.proofs.Shared as third-agrees
-use Rattle.readers_core.specs.Course.{Course, Shares, one}
-use Rattle.readers_core.specs.Reading.{State, From, Flat}
-use Rattle.readers_core.proofs.Sharing.{carried}
-use Rattle.courses.specs.Courses.{two, three, code-3}
+-- Editions 2 and 3 share 86 and 40 rules with edition 1: these have the same plans in both but for the numbers, and name no others.
+-- Computed.
+use mathlib.Core.Path.{_≡_, refl}
+use mathlib.Core.List.{[], _∷_, _++_}
+use lib.Dec.{T}
+use Rattle.prediction.specs.Renaming.{as-it-is}
+use Rattle.prediction.specs.Sets.{row, each}
+use Rattle.prediction.specs.Shared.{agrees}
+use Rattle.prediction.specs.IdlPlans.{idl-prediction}
+use Rattle.components.specs.Plans.{components-prediction}
+use Rattle.data_only.specs.Plans.{data-only-prediction}
+use Rattle.courses.specs.Shared.{shared-2, number-3, shared-3}
 
--- rule n of the course R is recorded always where its fellow in C is, and written as the same number
-unfoldable pub kept-alike : (R C : Course) (number : ℕ → ℕ) → ℕ → Bool
-unfolding elem
-kept-alike R C number n =
-    (let a = elem n (R .edition .always) in cond (elem (number n) (C .edition .always)) a (not a)) &&
-    eqb (C .code (number n)) (R .code n)
+-- all but 1, 2, 9, 23 and 85, which edition 2 changes, and those that use them: 3, 4, 5, 8, 13, 16, 17 and 21
+pub two-shares-these : shared-2 ≡ 6 ∷ 7 ∷ 10 ∷ 11 ∷ 12 ∷ 14 ∷ 15 ∷ 18 ∷ 19 ∷ 20 ∷ 22 ∷ row 24 61 ++ row 86 14
+unfolding shared-2 row
+two-shares-these = refl
 
-alike : (a b : Bool) → T (cond a b (not b)) → a ≡ b
-alike true true u = refl
-alike true false u = absurd u
-alike false true u = absurd u
-alike false false u = refl
+pub agree-2 : T (each (agrees as-it-is (idl-prediction .plans) (components-prediction .plans) shared-2) shared-2)
+unfolding each agrees shared-2 idl-prediction components-prediction
+agree-2 = tt
 
--- the two tests of a list of rules make them shared
-module _ (R C : Course) (number : ℕ → ℕ) (S : List ℕ) (agree : T (each (agrees number (plans-of (R .checked)) (plans-of (C .checked)) S) S))
-    (kept : T (each (kept-alike R C number) S)) where
-  kept-at : (n : ℕ) → T (elem n S) → T (kept-alike R C number n)
-  kept-at n v = each-at (kept-alike R C number) S n kept v
+-- names; constants and their expressions; declarators, types of a word or two; labels, enumerations, strings, arrays, fixed types
+pub three-shares-these : shared-3 ≡ 12 ∷ row 27 15 ++ 51 ∷ row 53 14 ++ 76 ∷ 78 ∷ 79 ∷ 81 ∷ 82 ∷ 83 ∷ 84 ∷ 96 ∷ 97 ∷ []
+unfolding shared-3 row
+three-shares-these = refl
 
-  shares : Shares R C
-  unfolding kept-alike table round
-  shares = record {
-    rule = λ n. elem n S;
-    number = number;
-    closed = plan-inside number (plans-of (R .checked)) (plans-of (C .checked)) S agree;
-    same-plan = plan-same number (plans-of (R .checked)) (plans-of (C .checked)) S agree;
-    same-always = λ n v.
-        let a = elem n (R .edition .always) in
-        let b = elem (number n) (C .edition .always) in
-        alike b a (and-left (cond b a (not a)) (eqb (C .code (number n)) (R .code n)) (kept-at n v));
-    same-code = λ n v.
-        let a = elem n (R .edition .always) in
-        let b = elem (number n) (C .edition .always) in
-        eqb→eq (C .code (number n)) (R .code n)
-        (and-right (cond b a (not a)) (eqb (C .code (number n)) (R .code n)) (kept-at n v));
-  }
-
-kept-in-two : T (each (kept-alike one two as-it-is) second.shared-rules)
-unfolding each kept-alike second.shared-rules idl components
-kept-in-two = tt
-
-kept-in-three : T (each (kept-alike one three number-here) third.shared-rules)
-unfolding each kept-alike number-here third.shared-rules code-3 idl data-only
-kept-in-three = tt
-
-two-shares : Shares one two
-unfolding shares
-two-shares = shares one two as-it-is second.shared-rules second-agrees.shared-agree kept-in-two
-
-three-shares : Shares one three
-unfolding shares
-three-shares = shares one three number-here third.shared-rules third-agrees.shared-agree kept-in-three
-
-module _ {ks : List ℕ} {d start : ℕ} {hs : List ℕ} (p : Plan) {s s′ : State} where
-  -- edition 2, by the same numbers
-  pub in-two : T (inside second.shared-rules p) → From one ks d start hs p s s′ → From two ks d start hs p s s′
-  unfolding two-shares shares
-  in-two u x =
-      subst (λ (q : Plan). From two ks d start hs q s s′) (renamed-same p)
-      (carried two-shares (inside-holds second.shared-rules p u) x)
-
-  -- edition 3, by its own
-  pub in-three : T (inside third.shared-rules p) → From one ks d start hs p s s′ →
-      From three ks d start hs (renamed number-here p) s s′
-  unfolding three-shares shares
-  in-three u x = carried three-shares (inside-holds third.shared-rules p u) x
-
--- so whatever reads rule 12 as `scoped_name` does reads rule 12 of edition 2 and rule 204 of edition 3
-pub scoped-names : {ks : List ℕ} {s s′ : State} → Flat one ks (call 12) s s′ →
-    Flat two ks (call 12) s s′ × Flat three ks (call 204) s s′
-unfolding inside renamed number-here second.shared-rules third.shared-rules
-scoped-names x = (
-  record { at-any = λ d. record { in-any = λ start hs. in-two (call 12) tt (x .at-any d .in-any start hs) } },
-  record { at-any = λ d. record { in-any = λ start hs. in-three (call 12) tt (x .at-any d .in-any start hs) } },
-)
+pub agree-3 : T (each (agrees number-3 (idl-prediction .plans) (data-only-prediction .plans) shared-3) shared-3)
+unfolding each agrees number-3 shared-3 idl-prediction data-only-prediction
+agree-3 = tt

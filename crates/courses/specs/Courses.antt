@@ -8,9 +8,9 @@ use Rattle.prediction.specs.Renaming.{as-it-is}
 use Rattle.components.specs.Components.{components}
 use Rattle.components.proofs.Checked.{components-checked}
 use Rattle.data_only.specs.DataOnly.{data-only}
-use Rattle.data_only.specs.Shared.{number-here, shared-rules}
 use Rattle.data_only.proofs.Checked.{data-only-checked}
 use Rattle.readers_core.specs.Course.{Course}
+use Rattle.courses.specs.Shared.{number-3, shared-3}
 
 -- readers write the numbers of its rules
 abbrev pub two : Course
@@ -18,13 +18,13 @@ two = record { edition = components; checked = components-checked; code = as-it-
 
 -- for a rule that edition 3 shares with edition 1 readers write the number there
 unfoldable pub written-as : (ns : List ℕ) (r : ℕ) → ℕ
-unfolding number-here
+unfolding number-3
 written-as [] r = r
-written-as (n ∷ ns) r = cond (eqb (number-here n) r) n (written-as ns r)
+written-as (n ∷ ns) r = cond (eqb (number-3 n) r) n (written-as ns r)
 
 unfoldable pub code-3 : ℕ → ℕ
-unfolding written-as shared-rules
-code-3 = written-as shared-rules
+unfolding written-as shared-3
+code-3 = written-as shared-3
 
 abbrev pub three : Course
 three = record { edition = data-only; checked = data-only-checked; code = code-3 }

@@ -1,1 +1,1 @@
-// The courses of editions 2 and 3, and what readers of edition 1 read in them. No code.
+// What editions 2 and 3 share with edition 1, their courses, and what its readers read in them. No code.

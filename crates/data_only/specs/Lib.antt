@@ -1,3 +1,2 @@
 pub mod DataOnly
 pub mod Plans
-pub mod Shared
