@@ -16,12 +16,13 @@ use Rattle.courses.specs.Shared.{number-3, shared-3}
 abbrev pub two : Course
 two = record { edition = components; checked = components-checked; code = as-it-is }
 
--- for a rule that edition 3 shares with edition 1 readers write the number there
+-- the first of the rules ns of edition 1 that has the number r in edition 3; r where none has
 unfoldable pub written-as : (ns : List ℕ) (r : ℕ) → ℕ
 unfolding number-3
 written-as [] r = r
 written-as (n ∷ ns) r = cond (eqb (number-3 n) r) n (written-as ns r)
 
+-- for a rule that both editions share, readers write its number in edition 1
 unfoldable pub code-3 : ℕ → ℕ
 unfolding written-as shared-3
 code-3 = written-as shared-3
