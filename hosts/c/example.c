@@ -4,22 +4,21 @@
  * Usage: example FILE
  */
 #include "idl.h"
-#include "stage.h"
 
 #include <stdio.h>
 #include <stdlib.h>
 
 static const char *const MEANINGS[] = {
-    "accepted",
-    "the text is too long or the depth setting out of range",
-    "no token starts here",
-    "this comment or literal is not closed",
-    "this literal is bad",
-    "this is a keyword in another case",
-    "the token table is full",
-    "no definition goes on like this",
-    "this is nested too deep",
-    "the tree table is full",
+    [IDL_ACCEPTED] = "accepted",
+    [IDL_BAD_CALL] = "the text is too long or the depth setting out of range",
+    [IDL_NO_LEXEME] = "no token starts here",
+    [IDL_OPEN] = "this comment or literal is not closed",
+    [IDL_BAD_LITERAL] = "this literal is bad",
+    [IDL_KEYWORD_CASE] = "this is a keyword in another case",
+    [IDL_TOKEN_TABLE_FULL] = "the token table is full",
+    [IDL_GRAMMAR] = "no definition goes on like this",
+    [IDL_TOO_DEEP] = "this is nested too deep",
+    [IDL_TREE_TABLE_FULL] = "the tree table is full",
 };
 
 /* The bytes of a file, at most one more than the reader takes; null if there are none to be had. */
@@ -54,24 +53,6 @@ static void print_tree(const uint32_t *tree, size_t count) {
     }
 }
 
-/* Reads a text by as much of the reader as the library has. */
-static idl_reply read_text(const uint8_t *text, size_t text_len, uint32_t *tokens, size_t tokens_len, uint32_t *tree,
-                           size_t tree_len) {
-#if STAGE >= READER
-    return idl_read(text, text_len, tokens, tokens_len, tree, tree_len, IDL_DEPTH_CEILING);
-#else
-    const idl_reply reply = idl_read_tokens(text, text_len, tokens, tokens_len);
-#if STAGE >= TREE
-    if (reply.number == IDL_ACCEPTED) {
-        return idl_read_tree(tokens, tokens_len, reply.tokens, text_len, tree, tree_len, IDL_DEPTH_CEILING);
-    }
-#endif
-    (void)tree;
-    (void)tree_len;
-    return reply;
-#endif
-}
-
 /* Reads with room for a token a byte and two tree records a token, more than any text needs. */
 static int read_and_print(const char *name, const uint8_t *text, size_t text_len) {
     const size_t tokens_len = IDL_TOKEN_NUMBERS * text_len;
@@ -80,7 +61,7 @@ static int read_and_print(const char *name, const uint8_t *text, size_t text_len
     uint32_t *tree = malloc((tree_len + 1) * sizeof *tree);
     int failed = 1;
     if (tokens != NULL && tree != NULL) {
-        const idl_reply reply = read_text(text, text_len, tokens, tokens_len, tree, tree_len);
+        const idl_reply reply = idl_read(text, text_len, tokens, tokens_len, tree, tree_len, IDL_DEPTH_CEILING);
         failed = reply.number != IDL_ACCEPTED;
         if (failed) {
             printf("%s:%u: %s\n", name, (unsigned)reply.place, MEANINGS[reply.number]);

@@ -5,7 +5,6 @@
  */
 #define _DEFAULT_SOURCE
 #include "idl.h"
-#include "stage.h"
 
 #include <stdio.h>
 #include <stdlib.h>
@@ -14,6 +13,7 @@
 
 #define PAGE 4096
 #define FILLER 0x5aa5f00du
+#define LENGTH(array) (sizeof(array) / sizeof *(array))
 
 static void demand(int holds, const char *what) {
     if (!holds) {
@@ -98,25 +98,25 @@ struct row {
 static const char SHIFT[] = "const long A = 1 << 8 + 4;";
 
 static const struct row ROWS[] = {
-    {"", 0, 0, 64, {0, 0, 0, 0}, {7, 0, 0, 0}},
-    {"native A;", 9, 16, 64, {0, 9, 3, 0}, {0, 9, 3, 4}},
-    {"native A;", 11, 19, 1, {0, 9, 3, 0}, {0, 9, 3, 4}},
-    {"native A;", 9, 15, 64, {0, 9, 3, 0}, {9, 9, 3, 4}},
-    {"native A;", 9, 0, 64, {0, 9, 3, 0}, {9, 9, 3, 4}},
-    {"native A;", 8, 16, 64, {6, 9, 3, 0}, {6, 9, 3, 0}},
-    {"native A;", 0, 0, 64, {6, 9, 3, 0}, {6, 9, 3, 0}},
-    {"native A;", 9, 16, 0, {0, 9, 3, 0}, {1, 0, 0, 0}},
-    {"native A;", 9, 16, 65, {0, 9, 3, 0}, {1, 0, 0, 0}},
-    {SHIFT, 30, 36, 64, {0, 26, 10, 0}, {0, 26, 10, 9}},
-    {SHIFT, 30, 35, 64, {0, 26, 10, 0}, {9, 26, 10, 9}},
-    {"const long A = - -1;", 30, 40, 64, {0, 20, 8, 0}, {7, 17, 8, 0}},
-    {"const long A = ((1));", 30, 40, 1, {0, 21, 10, 0}, {8, 16, 10, 0}},
-    {"interface Factory { };", 3, 2, 64, {5, 10, 0, 0}, {5, 10, 0, 0}},
-    {"const long A = 08;", 2, 3, 64, {4, 15, 0, 0}, {4, 15, 0, 0}},
-    {"/* x", 1, 1, 64, {3, 0, 0, 0}, {3, 0, 0, 0}},
-    {"native A; \"\\x", 1, 1, 64, {3, 10, 0, 0}, {3, 10, 0, 0}},
-    {"native A; 0x", 1, 1, 64, {4, 10, 0, 0}, {4, 10, 0, 0}},
-    {"native A; _", 1, 1, 64, {2, 10, 0, 0}, {2, 10, 0, 0}},
+    {"", 0, 0, IDL_DEPTH_CEILING, {IDL_ACCEPTED, 0, 0, 0}, {IDL_GRAMMAR, 0, 0, 0}},
+    {"native A;", 9, 16, IDL_DEPTH_CEILING, {IDL_ACCEPTED, 9, 3, 0}, {IDL_ACCEPTED, 9, 3, 4}},
+    {"native A;", 11, 19, 1, {IDL_ACCEPTED, 9, 3, 0}, {IDL_ACCEPTED, 9, 3, 4}},
+    {"native A;", 9, 15, IDL_DEPTH_CEILING, {IDL_ACCEPTED, 9, 3, 0}, {IDL_TREE_TABLE_FULL, 9, 3, 4}},
+    {"native A;", 9, 0, IDL_DEPTH_CEILING, {IDL_ACCEPTED, 9, 3, 0}, {IDL_TREE_TABLE_FULL, 9, 3, 4}},
+    {"native A;", 8, 16, IDL_DEPTH_CEILING, {IDL_TOKEN_TABLE_FULL, 9, 3, 0}, {IDL_TOKEN_TABLE_FULL, 9, 3, 0}},
+    {"native A;", 0, 0, IDL_DEPTH_CEILING, {IDL_TOKEN_TABLE_FULL, 9, 3, 0}, {IDL_TOKEN_TABLE_FULL, 9, 3, 0}},
+    {"native A;", 9, 16, 0, {IDL_ACCEPTED, 9, 3, 0}, {IDL_BAD_CALL, 0, 0, 0}},
+    {"native A;", 9, 16, IDL_DEPTH_CEILING + 1, {IDL_ACCEPTED, 9, 3, 0}, {IDL_BAD_CALL, 0, 0, 0}},
+    {SHIFT, 30, 36, IDL_DEPTH_CEILING, {IDL_ACCEPTED, 26, 10, 0}, {IDL_ACCEPTED, 26, 10, 9}},
+    {SHIFT, 30, 35, IDL_DEPTH_CEILING, {IDL_ACCEPTED, 26, 10, 0}, {IDL_TREE_TABLE_FULL, 26, 10, 9}},
+    {"const long A = - -1;", 30, 40, IDL_DEPTH_CEILING, {IDL_ACCEPTED, 20, 8, 0}, {IDL_GRAMMAR, 17, 8, 0}},
+    {"const long A = ((1));", 30, 40, 1, {IDL_ACCEPTED, 21, 10, 0}, {IDL_TOO_DEEP, 16, 10, 0}},
+    {"interface Factory { };", 3, 2, IDL_DEPTH_CEILING, {IDL_KEYWORD_CASE, 10, 0, 0}, {IDL_KEYWORD_CASE, 10, 0, 0}},
+    {"const long A = 08;", 2, 3, IDL_DEPTH_CEILING, {IDL_BAD_LITERAL, 15, 0, 0}, {IDL_BAD_LITERAL, 15, 0, 0}},
+    {"/* x", 1, 1, IDL_DEPTH_CEILING, {IDL_OPEN, 0, 0, 0}, {IDL_OPEN, 0, 0, 0}},
+    {"native A; \"\\x", 1, 1, IDL_DEPTH_CEILING, {IDL_OPEN, 10, 0, 0}, {IDL_OPEN, 10, 0, 0}},
+    {"native A; 0x", 1, 1, IDL_DEPTH_CEILING, {IDL_BAD_LITERAL, 10, 0, 0}, {IDL_BAD_LITERAL, 10, 0, 0}},
+    {"native A; _", 1, 1, IDL_DEPTH_CEILING, {IDL_NO_LEXEME, 10, 0, 0}, {IDL_NO_LEXEME, 10, 0, 0}},
 };
 
 static int same_reply(idl_reply left, idl_reply right) {
@@ -130,45 +130,50 @@ static void test_tokens(const struct row *row, enum stand stand) {
     const struct lent tokens = lend_table(stand, row->tokens_len);
     const idl_reply reply = idl_read_tokens(text.bytes, text_len, tokens.bytes, row->tokens_len);
     demand(same_reply(reply, row->tokens_reply), row->text);
-    demand(is_as_replied(tokens.bytes, row->tokens_len, reply.number, 3 * reply.tokens), row->text);
+    demand(is_as_replied(tokens.bytes, row->tokens_len, reply.number, IDL_TOKEN_NUMBERS * reply.tokens), row->text);
     give_back(tokens);
     give_back(text);
 }
 
 static void test_spelling(enum stand stand) {
-    const uint32_t records[] = {42, 0, 6, 1, 7, 2, 1, 8, 0xffffffff, 7};
-    const struct lent text = lend(stand, "native A", 8, 0);
+    const char *const words = "a name";
+    const size_t text_len = strlen(words);
+    /* One record inside the text, two that leave it, and the start of a fourth. */
+    const uint32_t records[] = {
+        IDL_IDENTIFIER, 2, 4,
+        IDL_IDENTIFIER, 5, 2,
+        IDL_IDENTIFIER, 6, UINT32_MAX,
+        IDL_IDENTIFIER,
+    };
+    const uint32_t wanted[] = {4, 0, 0, 0, 0};
+    const struct lent text = lend(stand, words, text_len, 0);
     const struct lent tokens = lend(stand, records, sizeof records, 0);
-    const uint32_t wanted[] = {6, 0, 0, 0, 0};
-    for (size_t record = 0; record < 5; record++) {
-        const idl_span span = idl_spelling(text.bytes, 8, tokens.bytes, 10, record);
+    for (size_t record = 0; record < LENGTH(wanted); record++) {
+        const idl_span span = idl_spelling(text.bytes, text_len, tokens.bytes, LENGTH(records), record);
         demand(span.length == wanted[record], "a spelling");
     }
     give_back(tokens);
     give_back(text);
 }
 
-#if STAGE >= TREE
 static void test_tree(const struct row *row, enum stand stand) {
     const size_t text_len = strlen(row->text);
     uint32_t numbers[64];
-    const idl_reply first = idl_read_tokens((const uint8_t *)row->text, text_len, numbers, 64);
+    const idl_reply first = idl_read_tokens((const uint8_t *)row->text, text_len, numbers, LENGTH(numbers));
     if (first.number != IDL_ACCEPTED || row->reply.number == IDL_TOKEN_TABLE_FULL) {
         return;
     }
-    const size_t tokens_len = 3 * first.tokens;
+    const size_t tokens_len = IDL_TOKEN_NUMBERS * first.tokens;
     const struct lent tokens = lend(stand, numbers, tokens_len * sizeof *numbers, 0);
     const struct lent tree = lend_table(stand, row->tree_len);
     const idl_reply reply =
         idl_read_tree(tokens.bytes, tokens_len, first.tokens, text_len, tree.bytes, row->tree_len, row->depth);
     demand(same_reply(reply, row->reply), row->text);
-    demand(is_as_replied(tree.bytes, row->tree_len, reply.number, 4 * reply.records), row->text);
+    demand(is_as_replied(tree.bytes, row->tree_len, reply.number, IDL_TREE_NUMBERS * reply.records), row->text);
     give_back(tree);
     give_back(tokens);
 }
-#endif
 
-#if STAGE >= READER
 static void test_reader(const struct row *row, enum stand stand) {
     const size_t text_len = strlen(row->text);
     const struct lent text = lend(stand, row->text, text_len, 0);
@@ -177,25 +182,20 @@ static void test_reader(const struct row *row, enum stand stand) {
     const idl_reply reply =
         idl_read(text.bytes, text_len, tokens.bytes, row->tokens_len, tree.bytes, row->tree_len, row->depth);
     demand(same_reply(reply, row->reply), row->text);
-    demand(is_as_replied(tokens.bytes, row->tokens_len, reply.number, 3 * reply.tokens), row->text);
-    demand(is_as_replied(tree.bytes, row->tree_len, reply.number, 4 * reply.records), row->text);
+    demand(is_as_replied(tokens.bytes, row->tokens_len, reply.number, IDL_TOKEN_NUMBERS * reply.tokens), row->text);
+    demand(is_as_replied(tree.bytes, row->tree_len, reply.number, IDL_TREE_NUMBERS * reply.records), row->text);
     give_back(tree);
     give_back(tokens);
     give_back(text);
 }
-#endif
 
 int main(void) {
     for (int stand = HEAP; stand < STANDS; stand++) {
         test_spelling(stand);
-        for (size_t at = 0; at < sizeof ROWS / sizeof *ROWS; at++) {
+        for (size_t at = 0; at < LENGTH(ROWS); at++) {
             test_tokens(&ROWS[at], stand);
-#if STAGE >= TREE
             test_tree(&ROWS[at], stand);
-#endif
-#if STAGE >= READER
             test_reader(&ROWS[at], stand);
-#endif
         }
     }
     printf("the C test passed\n");

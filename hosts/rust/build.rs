@@ -5,9 +5,6 @@ use std::path::PathBuf;
 
 fn main() {
     println!("cargo:rerun-if-env-changed=IDL_LIBRARY");
-    if env::var_os("CARGO_FEATURE_TOKENS").is_none() {
-        return;
-    }
     let built = PathBuf::from(env!("CARGO_MANIFEST_DIR")).join("../../target/staticlib/libidl.a");
     let library = env::var_os("IDL_LIBRARY").map_or(built, PathBuf::from);
     let library = library.canonicalize().unwrap_or_else(|error| panic!("{}: {error}", library.display()));

@@ -1,16 +1,19 @@
 //! The reader against the rules as data: acceptance, place of blame, tree, and the order of the replies.
 
-use super::reader::{read_tree, Reply};
+use super::reader::number::{ACCEPTED, GRAMMAR, TOO_DEEP, TREE_TABLE_FULL};
+use super::reader::{read_tree, Reply, DEPTH_CEILING, TREE_NUMBERS};
 use generate::cases::{depth, table_length};
-use generate::kind::{CLOSING, OPENING};
+use generate::kind::{CLOSING, FIRST_KEYWORD, LAST_MARK, OPENING};
+use generate::sentence::Sentences;
 use generate::{Cases, Chart, Grammar, Meaning, Random};
 
 /// The answer that the scope page gives to a call of the tree part, from the limitless meaning of the list.
-fn answer(meaning: &Meaning, grammar: &Grammar, kinds: &[u32], text_length: usize, room: usize, depth: u32) -> Reply {
-    let count = kinds.len() as u32;
-    let reply = |number, token: usize, records| {
-        let place = if token == kinds.len() { text_length as u32 } else { place_of(token) };
-        Reply { number, place, tokens: count, records }
+fn answer(meaning: &Meaning, grammar: &Grammar, kinds: &[u32], room: usize, depth: u32) -> Reply {
+    let reply = |number, token, records: usize| Reply {
+        number,
+        place: place_of(token),
+        tokens: kinds.len() as u32,
+        records: records as u32,
     };
     let blame = match meaning {
         Meaning::Blame(token) => *token,
@@ -18,12 +21,12 @@ fn answer(meaning: &Meaning, grammar: &Grammar, kinds: &[u32], text_length: usiz
     };
     let marks = |spellings: [&str; 4]| spellings.map(|spelling| grammar.kinds.of(spelling));
     if let Some(token) = first_too_deep(&kinds[..blame], marks(OPENING), marks(CLOSING), depth) {
-        return reply(8, token, 0);
+        return reply(TOO_DEEP, token, 0);
     }
     match meaning {
-        Meaning::Blame(token) => reply(7, *token, 0),
-        Meaning::Records(records) if records.len() > room => reply(9, kinds.len(), records.len() as u32),
-        Meaning::Records(records) => reply(0, kinds.len(), records.len() as u32),
+        Meaning::Blame(token) => reply(GRAMMAR, *token, 0),
+        Meaning::Records(records) if records.len() > room => reply(TREE_TABLE_FULL, kinds.len(), records.len()),
+        Meaning::Records(records) => reply(ACCEPTED, kinds.len(), records.len()),
     }
 }
 
@@ -43,6 +46,7 @@ fn first_too_deep(kinds: &[u32], opening: [u32; 4], closing: [u32; 4], depth: u3
     None
 }
 
+/// The place of a token; that of the end is the length of the text.
 fn place_of(token: usize) -> u32 {
     5 * token as u32 + 1
 }
@@ -59,14 +63,14 @@ fn check(kinds: &[u32], chart: &Chart, grammar: &Grammar, random: &mut Random) {
         Meaning::Blame(_) => Vec::new(),
     };
     let garbage: Vec<u32> = (0..table_length(records.len(), random)).map(|_| random.number() as u32).collect();
-    let depth = depth(random).clamp(1, 64);
-    let text_length = 5 * kinds.len() + 1;
+    let depth = depth(random).clamp(1, DEPTH_CEILING);
+    let text_length = place_of(kinds.len()) as usize;
     let mut tree = garbage.clone();
     let reply = read_tree(&table_of(kinds), kinds.len(), text_length, &mut tree, depth);
-    let wanted = answer(&meaning, grammar, kinds, text_length, tree.len() / 4, depth);
+    let wanted = answer(&meaning, grammar, kinds, tree.len() / TREE_NUMBERS, depth);
     assert_eq!(reply, wanted, "{kinds:?} with depth {depth}");
     let wanted_tree = match reply.number {
-        0 => [&records[..], &garbage[records.len()..]].concat(),
+        ACCEPTED => [&records[..], &garbage[records.len()..]].concat(),
         _ => vec![0; garbage.len()],
     };
     assert_eq!(tree, wanted_tree, "{kinds:?}");
@@ -91,12 +95,13 @@ fn agrees_on_valid_and_damaged_lists() {
 fn agrees_on_every_kind_after_every_beginning() {
     let grammar = Grammar::published();
     let chart = Chart::new(&grammar);
-    let cases = Cases::new(&grammar);
     let mut random = Random::new(2);
+    // Numbers whose low part is a kind.
+    let wrapped = [FIRST_KEYWORD + 256, grammar.kinds.of("const") + 65536, u32::MAX];
     for rule in 1..grammar.rules.len() {
-        let kinds = list_that_uses(rule as u32, &cases, &chart, &mut random);
+        let kinds = list_that_uses(rule, &grammar, &chart, &mut random);
         for (length, continuations) in chart.continuations(&kinds).iter().enumerate() {
-            for kind in (0..=88).chain([16 + 256, 26 + 65536, u32::MAX]) {
+            for kind in (0..=LAST_MARK + 1).chain(wrapped) {
                 let list = [&kinds[..length], &[kind]].concat();
                 check_last(&list, continuations.contains(&kind));
             }
@@ -106,21 +111,21 @@ fn agrees_on_every_kind_after_every_beginning() {
 
 /// The last token of a list is blamed exactly if no derivable list goes on with it, and none before it is.
 fn check_last(kinds: &[u32], goes_on: bool) {
-    let text_length = 5 * kinds.len() + 1;
-    let mut tree = vec![0; 8 * kinds.len()];
-    let reply = read_tree(&table_of(kinds), kinds.len(), text_length, &mut tree, 64);
+    let end = place_of(kinds.len());
+    let mut tree = vec![0; 2 * TREE_NUMBERS * kinds.len()];
+    let reply = read_tree(&table_of(kinds), kinds.len(), end as usize, &mut tree, DEPTH_CEILING);
     let last = place_of(kinds.len() - 1);
     match reply.number {
-        7 => assert_eq!(reply.place, if goes_on { text_length as u32 } else { last }, "{kinds:?}"),
-        number => assert_eq!((number, goes_on), (0, true), "{kinds:?}"),
+        GRAMMAR => assert_eq!(reply.place, if goes_on { end } else { last }, "{kinds:?}"),
+        number => assert_eq!((number, goes_on), (ACCEPTED, true), "{kinds:?}"),
     }
 }
 
 /// A valid list in whose tree a rule is recorded; for the rules that never are, any list.
-fn list_that_uses(rule: u32, cases: &Cases, chart: &Chart, random: &mut Random) -> Vec<u32> {
-    const NEVER: [u32; 20] = [4, 11, 13, 20, 21, 28, 29, 41, 44, 45, 46, 47, 48, 50, 52, 54, 55, 59, 73, 95];
+fn list_that_uses(rule: usize, grammar: &Grammar, chart: &Chart, random: &mut Random) -> Vec<u32> {
+    let sentences = Sentences::new(grammar);
     loop {
-        let kinds = cases.sentences().kinds(random, 25, 60);
+        let kinds = sentences.kinds(random, 25, 60);
         if kinds.len() > 80 {
             continue;
         }
@@ -128,7 +133,7 @@ fn list_that_uses(rule: u32, cases: &Cases, chart: &Chart, random: &mut Random) 
             Meaning::Records(records) => records,
             Meaning::Blame(token) => panic!("{kinds:?} is derived, and blamed at {token}"),
         };
-        if NEVER.contains(&rule) || records.iter().any(|record| record[0] == rule) {
+        if grammar.rules[rule].is_one_rule() || records.iter().any(|record| record[0] == rule as u32) {
             return kinds;
         }
     }

@@ -1,6 +1,6 @@
 //! What the tests share: a call with ample tables.
 
-use super::reader::{read, Reply};
+use super::reader::{read, Reply, DEPTH_CEILING, TOKEN_NUMBERS, TREE_NUMBERS};
 
 pub struct Outcome {
     pub reply: Reply,
@@ -11,24 +11,35 @@ pub struct Outcome {
 impl Outcome {
     /// Number, place and the two counts.
     pub fn numbers(&self) -> (u32, u32, u32, u32) {
-        (self.reply.number, self.reply.place, self.reply.tokens, self.reply.records)
+        numbers_of(self.reply)
     }
 
     /// The kinds of the tokens of an accepted text.
     pub fn kinds(&self) -> Vec<u32> {
-        self.tokens.chunks(3).take(self.reply.tokens as usize).map(|record| record[0]).collect()
+        self.tokens.chunks(TOKEN_NUMBERS).take(self.reply.tokens as usize).map(|record| record[0]).collect()
     }
 
     /// The tree records of an accepted text.
-    pub fn records(&self) -> Vec<[u32; 4]> {
-        let records = self.tree.chunks(4).take(self.reply.records as usize);
+    pub fn records(&self) -> Vec<[u32; TREE_NUMBERS]> {
+        let records = self.tree.chunks(TREE_NUMBERS).take(self.reply.records as usize);
         records.map(|record| [record[0], record[1], record[2], record[3]]).collect()
     }
 }
 
-pub fn outcome(text: &[u8], depth: u32) -> Outcome {
-    let mut tokens = vec![0; 3 * text.len()];
-    let mut tree = vec![0; 8 * text.len()];
+/// Number, place and the two counts of a reply.
+pub fn numbers_of(reply: Reply) -> (u32, u32, u32, u32) {
+    (reply.number, reply.place, reply.tokens, reply.records)
+}
+
+/// The outcome of a text at the largest depth setting.
+pub fn outcome(text: &[u8]) -> Outcome {
+    outcome_at(text, DEPTH_CEILING)
+}
+
+/// The outcome of a text at this depth setting. A token takes a byte, and a tree has at most two records a token.
+pub fn outcome_at(text: &[u8], depth: u32) -> Outcome {
+    let mut tokens = vec![0; TOKEN_NUMBERS * text.len()];
+    let mut tree = vec![0; 2 * TREE_NUMBERS * text.len()];
     let reply = read(text, &mut tokens, &mut tree, depth);
     Outcome { reply, tokens, tree }
 }

@@ -1,13 +1,14 @@
 //! The texts that the readers are timed on are accepted, and have the size asked for.
 
 use super::common::outcome;
+use super::reader::number::ACCEPTED;
 use generate::corpus::{Corpus, CORPORA, SCANNER};
 use std::collections::HashSet;
 
 fn check(corpus: &Corpus, size: usize, seed: u64) {
     let text = corpus.text(size, seed);
-    let reply = outcome(&text, 64).reply;
-    assert_eq!(reply.number, 0, "{} of {size}, seed {seed}: refused at {}", corpus.name, reply.place);
+    let reply = outcome(&text).reply;
+    assert_eq!(reply.number, ACCEPTED, "{} of {size}, seed {seed}: refused at {}", corpus.name, reply.place);
     let length = text.len();
     assert!(size - 100 < length && length <= size, "{} of {size}, seed {seed}: {length}", corpus.name);
 }
@@ -32,6 +33,6 @@ fn the_small_texts_of_a_kind_are_accepted_and_differ() {
 
 #[test]
 fn the_scanner_file_is_accepted() {
-    let reply = outcome(SCANNER, 64).reply;
-    assert_eq!(reply.number, 0, "refused at {}", reply.place);
+    let reply = outcome(SCANNER).reply;
+    assert_eq!(reply.number, ACCEPTED, "refused at {}", reply.place);
 }

@@ -1,90 +1,118 @@
 //! What the papers mean by a derivation and its records, where a reader could stumble.
 
-use super::common::outcome;
-use super::reader::read_tree;
+use super::common::{numbers_of, outcome, outcome_at};
+use super::reader::number::{ACCEPTED, BAD_CALL, GRAMMAR, KEYWORD_CASE, TOO_DEEP, TREE_TABLE_FULL};
+use super::reader::{read_tree, DEPTH_CEILING, TEXT_CEILING, TREE_NUMBERS};
+use generate::kind::IDENTIFIER;
+use generate::Grammar;
 
 fn blamed(text: &str) -> (u32, u32) {
-    let reply = outcome(text.as_bytes(), 64).reply;
+    let reply = outcome(text.as_bytes()).reply;
     (reply.number, reply.place)
 }
 
-fn rules(text: &str) -> Vec<u32> {
-    let outcome = outcome(text.as_bytes(), 64);
-    assert_eq!(outcome.reply.number, 0, "{text}");
-    outcome.records().iter().map(|record| record[0]).collect()
+/// Demands that the records of a text of one definition are of these rules.
+fn assert_rules(text: &str, wanted: &str) {
+    let outcome = outcome(text.as_bytes());
+    assert_eq!(outcome.reply.number, ACCEPTED, "{text}");
+    let names = Grammar::names();
+    let rules: Vec<&str> = outcome.records().iter().map(|record| names[record[0] as usize - 1].as_str()).collect();
+    let wanted: Vec<&str> = wanted.split_whitespace().chain(["definition", "specification"]).collect();
+    assert_eq!(rules, wanted, "{text}");
 }
 
 #[test]
 fn shifts_neither_open_nor_close() {
-    assert_eq!(blamed("typedef sequence<string<1>> T;"), (7, 29));
-    assert_eq!(outcome(b"const long A = (1 << 2 >> 3);", 1).reply.number, 0);
+    assert_eq!(blamed("typedef sequence<string<1>> T;"), (GRAMMAR, 29));
+    assert_eq!(outcome_at(b"const long A = (1 << 2 >> 3);", 1).reply.number, ACCEPTED);
 }
 
 #[test]
 fn recorded_as_used() {
-    assert_eq!(rules("struct A { long b; };"), [57, 51, 71, 69, 2, 1]);
-    assert_eq!(rules("struct A { any b; any c; };"), [67, 51, 71, 67, 51, 71, 70, 69, 2, 1]);
-    assert_eq!(rules("typedef A::B c, d[TRUE];"), [12, 12, 51, 40, 84, 83, 49, 43, 42, 2, 1]);
-    let operations = [7, 89, 90, 87, 9, 12, 92, 12, 51, 91, 90, 87, 9, 8, 5, 2, 1];
-    assert_eq!(rules("interface I { void f(); A g(in ::B c); };"), operations);
-    assert_eq!(rules("abstract valuetype A { };"), [16, 2, 1]);
-    assert_eq!(rules("interface I { };"), [7, 8, 5, 2, 1]);
-    assert_eq!(
-        rules("valuetype V supports A, B { factory f(in any a); };"),
-        [12, 12, 19, 18, 26, 67, 51, 25, 23, 17, 2, 1]
+    assert_rules("struct A { long b; };", "signed_long_int simple_declarator member struct_type");
+    assert_rules(
+        "struct A { any b; any c; };",
+        "any_type simple_declarator member any_type simple_declarator member member_list struct_type",
     );
-    assert_eq!(rules("union U switch(A) { default: any a; };"), [12, 76, 67, 51, 77, 75, 72, 2, 1]);
+    assert_rules(
+        "typedef A::B c, d[TRUE];",
+        "scoped_name scoped_name
+         simple_declarator boolean_literal fixed_array_size array_declarator declarators type_declarator type_dcl",
+    );
+    assert_rules(
+        "interface I { void f(); A g(in ::B c); };",
+        "interface_header op_type_spec parameter_dcls op_dcl export
+         scoped_name param_attribute scoped_name simple_declarator param_dcl parameter_dcls op_dcl export
+         interface_body interface_dcl",
+    );
+    assert_rules("abstract valuetype A { };", "value_abs_dcl");
+    assert_rules("interface I { };", "interface_header interface_body interface_dcl");
+    assert_rules(
+        "valuetype V supports A, B { factory f(in any a); };",
+        "scoped_name scoped_name value_inheritance_spec value_header
+         init_param_attribute any_type simple_declarator init_param_decl init_dcl value_dcl",
+    );
+    assert_rules(
+        "union U switch(A) { default: any a; };",
+        "scoped_name case_label any_type simple_declarator element_spec case union_type",
+    );
 }
 
 #[test]
 fn empty_interface_body() {
-    let records = outcome(b"interface I { };", 64).records();
-    assert!(records.contains(&[8, 3, 3, 1]));
+    let records = outcome(b"interface I { };").records();
+    assert!(records.contains(&[Grammar::rule("interface_body"), 3, 3, 1]));
 }
 
 #[test]
 fn only_the_alternatives_of_the_rule() {
-    assert_eq!(blamed("union U switch(octet) { };"), (7, 15));
-    assert_eq!(blamed("union U switch(wchar) { };"), (7, 15));
-    assert_eq!(blamed("union U switch(long double) { };"), (7, 20));
-    assert_eq!(blamed("const fixed<1,2> A = 1;"), (7, 11));
-    assert_eq!(blamed("const any A = 1;"), (7, 6));
-    assert_eq!(blamed("typedef struct A B;"), (7, 17));
-    assert_eq!(blamed("custom valuetype V;"), (7, 18));
-    assert_eq!(blamed("valuetype V { factory f() raises(A); };"), (7, 26));
-    assert_eq!(blamed("interface I { void f() context(L\"a\"); };"), (7, 31));
-    assert_eq!(blamed("abstract struct A;"), (7, 9));
+    assert_eq!(blamed("union U switch(octet) { };"), (GRAMMAR, 15));
+    assert_eq!(blamed("union U switch(wchar) { };"), (GRAMMAR, 15));
+    assert_eq!(blamed("union U switch(long double) { };"), (GRAMMAR, 20));
+    assert_eq!(blamed("const fixed<1,2> A = 1;"), (GRAMMAR, 11));
+    assert_eq!(blamed("const any A = 1;"), (GRAMMAR, 6));
+    assert_eq!(blamed("typedef struct A B;"), (GRAMMAR, 17));
+    assert_eq!(blamed("custom valuetype V;"), (GRAMMAR, 18));
+    assert_eq!(blamed("valuetype V { factory f() raises(A); };"), (GRAMMAR, 26));
+    assert_eq!(blamed("interface I { void f() context(L\"a\"); };"), (GRAMMAR, 31));
+    assert_eq!(blamed("abstract struct A;"), (GRAMMAR, 9));
 }
 
 #[test]
 fn blame_wins_over_depth_at_one_token() {
-    assert_eq!(blamed("("), (7, 0));
-    assert_eq!(outcome(b"const long A = (1(", 1).numbers(), (7, 17, 7, 0));
-    assert_eq!(outcome(b"const long A = ((1(", 1).numbers(), (8, 16, 8, 0));
+    assert_eq!(blamed("("), (GRAMMAR, 0));
+    assert_eq!(outcome_at(b"const long A = (1(", 1).numbers(), (GRAMMAR, 17, 7, 0));
+    assert_eq!(outcome_at(b"const long A = ((1(", 1).numbers(), (TOO_DEEP, 16, 8, 0));
 }
 
 #[test]
 fn the_tree_part_alone() {
+    const FILLER: u32 = 9;
     let call = |tokens: &[u32], count, length, depth| {
-        let mut tree = [9; 4];
+        let mut tree = [FILLER; TREE_NUMBERS];
         let reply = read_tree(tokens, count, length, &mut tree, depth);
-        assert_eq!(tree, [if reply.number == 1 { 9 } else { 0 }; 4]);
-        (reply.number, reply.place, reply.tokens, reply.records)
+        assert_eq!(tree, [if reply.number == BAD_CALL { FILLER } else { 0 }; TREE_NUMBERS]);
+        numbers_of(reply)
     };
-    assert_eq!(call(&[], 0, 5, 64), (7, 5, 0, 0));
-    assert_eq!(call(&[42, 77, 1], 1, 5, 64), (7, 5, 1, 0));
-    assert_eq!(call(&[1, 77, 1], 1, 5, 64), (7, 77, 1, 0));
-    assert_eq!(call(&[42 + 256, u32::MAX, 1], 1, 5, 64), (7, u32::MAX, 1, 0));
-    assert_eq!(call(&[42, 0, 1, 1, 0, 1, 64, 0, 1], 3, 3, 64), (9, 3, 3, 4));
-    assert_eq!(call(&[42, 77], 1, 5, 64), (1, 0, 0, 0));
-    assert_eq!(call(&[42, 77, 1], 1, 0, 64), (1, 0, 0, 0));
-    assert_eq!(call(&[42, 77, 1], 1, 1_048_577, 64), (1, 0, 0, 0));
-    assert_eq!(call(&[42, 77, 1], 1, 1_048_576, 64), (7, 1_048_576, 1, 0));
-    assert_eq!(call(&[42, 77, 1], 1, 5, 65), (1, 0, 0, 0));
-    assert_eq!(call(&[42, 77, 1], 1, 5, 0), (1, 0, 0, 0));
+    let kinds = Grammar::published().kinds;
+    let (native, semicolon) = (kinds.of("native"), kinds.of(";"));
+    let deep = DEPTH_CEILING;
+    assert_eq!(call(&[], 0, 5, deep), (GRAMMAR, 5, 0, 0));
+    assert_eq!(call(&[native, 77, 1], 1, 5, deep), (GRAMMAR, 5, 1, 0));
+    assert_eq!(call(&[IDENTIFIER, 77, 1], 1, 5, deep), (GRAMMAR, 77, 1, 0));
+    assert_eq!(call(&[native + 256, u32::MAX, 1], 1, 5, deep), (GRAMMAR, u32::MAX, 1, 0));
+    let whole = [native, 0, 1, IDENTIFIER, 0, 1, semicolon, 0, 1];
+    assert_eq!(call(&whole, 3, 3, deep), (TREE_TABLE_FULL, 3, 3, 4));
+    let bad_call = (BAD_CALL, 0, 0, 0);
+    assert_eq!(call(&[native, 77], 1, 5, deep), bad_call);
+    assert_eq!(call(&[native, 77, 1], 1, 0, deep), bad_call);
+    assert_eq!(call(&[native, 77, 1], 1, TEXT_CEILING + 1, deep), bad_call);
+    assert_eq!(call(&[native, 77, 1], 1, TEXT_CEILING, deep), (GRAMMAR, TEXT_CEILING as u32, 1, 0));
+    assert_eq!(call(&[native, 77, 1], 1, 5, DEPTH_CEILING + 1), bad_call);
+    assert_eq!(call(&[native, 77, 1], 1, 5, 0), bad_call);
 }
 
 #[test]
 fn a_fault_comes_before_the_grammar() {
-    assert_eq!(blamed("} Interface"), (5, 2));
+    assert_eq!(blamed("} Interface"), (KEYWORD_CASE, 2));
 }

@@ -1,26 +1,34 @@
 //! Limits: short tables, the ceilings of text and depth, every rule and every kind.
 
-use super::common::outcome;
-use super::reader::{read, DEPTH_CEILING, TEXT_CEILING};
+use super::common::{numbers_of, outcome, outcome_at};
+use super::reader::number::{ACCEPTED, BAD_CALL, TOKEN_TABLE_FULL, TOO_DEEP, TREE_TABLE_FULL};
+use super::reader::{read, DEPTH_CEILING, TEXT_CEILING, TOKEN_NUMBERS, TREE_NUMBERS};
+use generate::kind;
+use generate::sentence::Sentences;
 use generate::text::{spell, Layout};
-use generate::{Cases, Grammar, Random};
+use generate::{Grammar, Random};
 use std::collections::HashSet;
+
+/// A text of three tokens and four tree records, and the numbers of the two tables that it needs.
+const TEXT: &[u8] = b"native A;";
+const TOKENS_NEEDED: usize = 3 * TOKEN_NUMBERS;
+const TREE_NEEDED: usize = 4 * TREE_NUMBERS;
 
 #[test]
 fn tables_of_any_length() {
-    let text = b"native A;";
+    let length = TEXT.len() as u32;
     for (tokens_length, tree_length) in (0..12).flat_map(|tokens| (0..20).map(move |tree| (tokens, tree))) {
         let (mut tokens, mut tree) = (vec![5; tokens_length], vec![6; tree_length]);
-        let reply = read(text, &mut tokens, &mut tree, 1);
-        let wanted = match (tokens_length >= 9, tree_length >= 16) {
-            (false, _) => (6, 9, 3, 0),
-            (true, false) => (9, 9, 3, 4),
-            (true, true) => (0, 9, 3, 4),
+        let reply = read(TEXT, &mut tokens, &mut tree, 1);
+        let wanted = match (tokens_length >= TOKENS_NEEDED, tree_length >= TREE_NEEDED) {
+            (false, _) => (TOKEN_TABLE_FULL, length, 3, 0),
+            (true, false) => (TREE_TABLE_FULL, length, 3, 4),
+            (true, true) => (ACCEPTED, length, 3, 4),
         };
-        assert_eq!((reply.number, reply.place, reply.tokens, reply.records), wanted);
-        if reply.number == 0 {
-            assert!(tokens[9..].iter().all(|&number| number == 5));
-            assert!(tree[16..].iter().all(|&number| number == 6));
+        assert_eq!(numbers_of(reply), wanted);
+        if reply.number == ACCEPTED {
+            assert!(tokens[TOKENS_NEEDED..].iter().all(|&number| number == 5));
+            assert!(tree[TREE_NEEDED..].iter().all(|&number| number == 6));
         } else {
             assert!(tokens.iter().chain(&tree).all(|&number| number == 0));
         }
@@ -34,32 +42,37 @@ fn the_token_table_is_counted_before_the_grammar() {
 
 #[test]
 fn text_ceiling() {
-    let mut text = b"native A;".to_vec();
+    let mut text = TEXT.to_vec();
     text.resize(TEXT_CEILING, b' ');
-    let (mut tokens, mut tree) = ([3; 10], [3; 17]);
-    let reply = read(&text, &mut tokens, &mut tree, 64);
-    assert_eq!((reply.number, reply.place), (0, TEXT_CEILING as u32));
-    assert_eq!((tokens[9], tree[16]), (3, 3));
+    let (mut tokens, mut tree) = ([3; TOKENS_NEEDED + 1], [3; TREE_NEEDED + 1]);
+    let reply = read(&text, &mut tokens, &mut tree, DEPTH_CEILING);
+    assert_eq!((reply.number, reply.place), (ACCEPTED, TEXT_CEILING as u32));
+    assert_eq!((tokens[TOKENS_NEEDED], tree[TREE_NEEDED]), (3, 3));
     text.push(b' ');
     let before = (tokens, tree);
-    assert_eq!(read(&text, &mut tokens, &mut tree, 64), read(b"", &mut [], &mut [], 0));
+    assert_eq!(numbers_of(read(&text, &mut tokens, &mut tree, DEPTH_CEILING)), REFUSED_CALL);
     assert_eq!((tokens, tree), before);
 }
 
+/// Number, place and counts of the reply to a bad call.
+const REFUSED_CALL: (u32, u32, u32, u32) = (BAD_CALL, 0, 0, 0);
+
 /// A constant with so many parentheses around it.
-fn nested(depth: usize) -> Vec<u8> {
-    format!("const long A = {}1{};", "(".repeat(depth), ")".repeat(depth)).into_bytes()
+fn nested(depth: u32) -> Vec<u8> {
+    let marks = |mark: &str| mark.repeat(depth as usize);
+    format!("const long A = {}1{};", marks("("), marks(")")).into_bytes()
 }
 
 #[test]
 fn depth_ceiling() {
-    assert_eq!(outcome(&nested(64), DEPTH_CEILING).reply.number, 0);
-    assert_eq!(outcome(&nested(65), DEPTH_CEILING).numbers(), (8, 15 + 64, 5 + 131, 0));
-    assert_eq!(outcome(&nested(1), 0).numbers(), (1, 0, 0, 0));
-    assert_eq!(outcome(&nested(1), 65).numbers(), (1, 0, 0, 0));
-    assert_eq!(outcome(&nested(1), u32::MAX).numbers(), (1, 0, 0, 0));
-    assert_eq!(outcome(&nested(1), 1).reply.number, 0);
-    assert_eq!(outcome(&nested(2), 1).reply.number, 8);
+    assert_eq!(outcome(&nested(DEPTH_CEILING)).reply.number, ACCEPTED);
+    let tokens = 6 + 2 * (DEPTH_CEILING + 1);
+    assert_eq!(outcome(&nested(DEPTH_CEILING + 1)).numbers(), (TOO_DEEP, 15 + DEPTH_CEILING, tokens, 0));
+    assert_eq!(outcome_at(&nested(1), 0).numbers(), REFUSED_CALL);
+    assert_eq!(outcome_at(&nested(1), DEPTH_CEILING + 1).numbers(), REFUSED_CALL);
+    assert_eq!(outcome_at(&nested(1), u32::MAX).numbers(), REFUSED_CALL);
+    assert_eq!(outcome_at(&nested(1), 1).reply.number, ACCEPTED);
+    assert_eq!(outcome_at(&nested(2), 1).reply.number, TOO_DEEP);
 }
 
 #[test]
@@ -72,29 +85,29 @@ fn depth_of_each_opening_mark() {
         "union U switch(enum E { A }) { default: any a; };",
     ];
     for text in deep {
-        let refused = outcome(text.as_bytes(), 1).reply;
+        let refused = outcome_at(text.as_bytes(), 1).reply;
         let second = text.match_indices(['(', '{', '[', '<']).nth(1).expect("it opens twice").0;
-        assert_eq!((refused.number, refused.place), (8, second as u32), "{text}");
-        assert_ne!(outcome(text.as_bytes(), 2).reply.number, 8, "{text}");
+        assert_eq!((refused.number, refused.place), (TOO_DEEP, second as u32), "{text}");
+        assert_ne!(outcome_at(text.as_bytes(), 2).reply.number, TOO_DEEP, "{text}");
     }
 }
 
 #[test]
 fn every_rule_and_every_kind_is_reached() {
     let grammar = Grammar::published();
-    let cases = Cases::new(&grammar);
+    let sentences = Sentences::new(&grammar);
     let mut random = Random::new(3);
     let (mut rules, mut kinds) = (HashSet::new(), HashSet::new());
     for _ in 0..2_000 {
-        let list = cases.sentences().kinds(&mut random, 60, 60);
+        let list = sentences.kinds(&mut random, 60, 60);
         let text = spell(&list, &grammar, Layout::Wild, &mut random);
-        let outcome = outcome(&text, 64);
-        assert_eq!(outcome.reply.number, 0, "{}", text.escape_ascii());
+        let outcome = outcome(&text);
+        assert_eq!(outcome.reply.number, ACCEPTED, "{}", text.escape_ascii());
         assert_eq!(outcome.kinds(), list, "{}", text.escape_ascii());
         kinds.extend(list);
         rules.extend(outcome.records().iter().map(|record| record[0]));
     }
-    // The other twenty rules have one nonterminal on every right side.
-    assert_eq!(rules.len(), 79);
-    assert_eq!(kinds.len(), 80);
+    let is_recorded = |&rule: &usize| !grammar.rules[rule].is_one_rule();
+    assert_eq!(rules, (1..grammar.rules.len()).filter(is_recorded).map(|rule| rule as u32).collect());
+    assert_eq!(kinds, kind::all().collect());
 }

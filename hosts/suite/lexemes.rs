@@ -1,13 +1,22 @@
 //! What the papers mean by a lexeme and a fault, where a reader could stumble.
 
-use super::reader::{read_tokens, spelling, TEXT_CEILING};
+use super::common::numbers_of;
+use super::reader::number::{ACCEPTED, BAD_CALL, BAD_LITERAL, KEYWORD_CASE, NO_LEXEME, OPEN, TOKEN_TABLE_FULL};
+use super::reader::{read_tokens, spelling, TEXT_CEILING, TOKEN_NUMBERS};
+use generate::kind::*;
+use generate::Grammar;
+
+/// The kind of a keyword or mark.
+fn kind(spelling: &str) -> u32 {
+    Grammar::published().kinds.of(spelling)
+}
 
 /// The kinds of the tokens of a text, or the number and place of its fault.
 fn tokens(text: &[u8]) -> Result<Vec<u32>, (u32, u32)> {
-    let mut table = vec![0; 3 * text.len()];
+    let mut table = vec![0; TOKEN_NUMBERS * text.len()];
     let reply = read_tokens(text, &mut table);
     match reply.number {
-        0 => Ok(table.chunks(3).take(reply.tokens as usize).map(|record| record[0]).collect()),
+        ACCEPTED => Ok(table.chunks(TOKEN_NUMBERS).take(reply.tokens as usize).map(|record| record[0]).collect()),
         number => Err((number, reply.place)),
     }
 }
@@ -24,49 +33,61 @@ fn assert_faults(texts: &[&[u8]], number: u32, place: u32) {
 
 #[test]
 fn wide_literals() {
-    assert_tokens("L'x' L\"x\" L", &[6, 8, 1]);
-    assert_tokens("aL\"x\" _L'x'", &[1, 7, 1, 5]);
-    assert_tokens("L 'x'", &[1, 5]);
-    assert_faults(&[b"L'", b"L\"", b"L\"\n\"", b"L'\r'"], 3, 0);
-    assert_faults(&[b"L''", b"L'ab'", b"L\"\\q\""], 4, 0);
+    assert_tokens("L'x' L\"x\" L", &[WIDE_CHARACTER, WIDE_STRING, IDENTIFIER]);
+    assert_tokens("aL\"x\" _L'x'", &[IDENTIFIER, STRING, IDENTIFIER, CHARACTER]);
+    assert_tokens("L 'x'", &[IDENTIFIER, CHARACTER]);
+    assert_faults(&[b"L'", b"L\"", b"L\"\n\"", b"L'\r'"], OPEN, 0);
+    assert_faults(&[b"L''", b"L'ab'", b"L\"\\q\""], BAD_LITERAL, 0);
 }
 
 #[test]
 fn underscores() {
-    assert_tokens("_a _L _interface _Interface _a1_", &[1, 1, 1, 1, 1]);
-    assert_faults(&[b"_", b"_1", b"__a", b"_ a", b"_'a'"], 2, 0);
+    assert_tokens("_a _L _interface _Interface _a1_", &[IDENTIFIER; 5]);
+    assert_faults(&[b"_", b"_1", b"__a", b"_ a", b"_'a'"], NO_LEXEME, 0);
     let (text, mut table) = (b" _union", [0; 3]);
     read_tokens(text, &mut table);
-    assert_eq!(table, [1, 1, 6]);
+    assert_eq!(table, [IDENTIFIER, 1, 6]);
 }
 
 #[test]
 fn points() {
-    assert_tokens("1.2.3 1..2 0x1.5 1e5.3 1d.5", &[3, 3, 3, 3, 2, 3, 3, 3, 4, 3]);
-    assert_faults(&[b".", b"..", b". 1", b".d", b".e1"], 2, 0);
-    assert_faults(&[b"0x1.", b"1.2.", b"0x1.d", b"1e5."], 2, 3);
+    assert_tokens(
+        "1.2.3 1..2 0x1.5 1e5.3 1d.5",
+        &[FLOATING, FLOATING, FLOATING, FLOATING, INTEGER, FLOATING, FLOATING, FLOATING, FIXED, FLOATING],
+    );
+    assert_faults(&[b".", b"..", b". 1", b".d", b".e1"], NO_LEXEME, 0);
+    assert_faults(&[b"0x1.", b"1.2.", b"0x1.d", b"1e5."], NO_LEXEME, 3);
 }
 
 #[test]
 fn numbers() {
-    assert_tokens("0 07 19 0x0 0XfF", &[2, 2, 2, 2, 2]);
-    assert_tokens("08.5 09e1 1. .1 1.e3 .1E-3 1e+3 0e0", &[3, 3, 3, 3, 3, 3, 3, 3]);
-    assert_tokens("08d 1D 1.d .1d 1.1D", &[4, 4, 4, 4, 4]);
-    assert_tokens("1'a' 1-1 0x1d", &[2, 5, 2, 83, 2, 2]);
+    assert_tokens("0 07 19 0x0 0XfF", &[INTEGER; 5]);
+    assert_tokens("08.5 09e1 1. .1 1.e3 .1E-3 1e+3 0e0", &[FLOATING; 8]);
+    assert_tokens("08d 1D 1.d .1d 1.1D", &[FIXED; 5]);
+    assert_tokens("1'a' 1-1 0x1d", &[INTEGER, CHARACTER, INTEGER, kind("-"), INTEGER, INTEGER]);
     let bad: [&[u8]; 15] = [
         b"1e", b"1.e", b"1e+", b"0x", b"0xg", b"1e5d", b"1d5", b"08", b"018", b"1a", b"1_", b"1L'a'", b"0x1g", b"1.5f",
         b"1dd",
     ];
-    assert_faults(&bad, 4, 0);
+    assert_faults(&bad, BAD_LITERAL, 0);
 }
 
 #[test]
 fn escapes() {
-    assert_tokens(r#"'\n' '\t' '\v' '\b' '\r' '\f' '\a' '\\' '\?' '\'' '\"'"#, &[5; 11]);
-    assert_tokens(r#"'\0' '\00' '\377' '\x0' '\xfF' L'\u0' L'\uFfFf' L'\u12'"#, &[5, 5, 5, 5, 5, 6, 6, 6]);
-    assert_tokens(r#""\1" "\18" "\x1g" L"\u1g" "\1234" "" L"" "a'b""#, &[7, 7, 7, 8, 7, 7, 8, 7]);
-    assert_tokens("'\"' \"'\" ' ' '~' '/' \"/*\" \"//\"", &[5, 7, 5, 5, 5, 7, 7]);
-    assert_eq!(tokens(b"'\xa0' '\xff'"), Ok(vec![5, 5]));
+    assert_tokens(r#"'\n' '\t' '\v' '\b' '\r' '\f' '\a' '\\' '\?' '\'' '\"'"#, &[CHARACTER; 11]);
+    assert_tokens(
+        r#"'\0' '\00' '\377' '\x0' '\xfF' L'\u0' L'\uFfFf' L'\u12'"#,
+        &[CHARACTER, CHARACTER, CHARACTER, CHARACTER, CHARACTER, WIDE_CHARACTER, WIDE_CHARACTER, WIDE_CHARACTER],
+    );
+    assert_tokens(
+        r#""\1" "\18" "\x1g" L"\u1g" "\1234" "" L"" "a'b""#,
+        &[STRING, STRING, STRING, WIDE_STRING, STRING, STRING, WIDE_STRING, STRING],
+    );
+    assert_tokens(
+        "'\"' \"'\" ' ' '~' '/' \"/*\" \"//\"",
+        &[CHARACTER, STRING, CHARACTER, CHARACTER, CHARACTER, STRING, STRING],
+    );
+    assert_eq!(tokens(b"'\xa0' '\xff'"), Ok(vec![CHARACTER, CHARACTER]));
     let bad: [&[u8]; 13] = [
         br"'\8'",
         br"'\X1'",
@@ -82,80 +103,99 @@ fn escapes() {
         br"'\1111'",
         br"'\x111'",
     ];
-    assert_faults(&bad, 4, 0);
+    assert_faults(&bad, BAD_LITERAL, 0);
 }
 
 #[test]
 fn open_and_bad_literals() {
-    assert_faults(&[b"'", b"'a", b"\"", b"\"a", b"\"a\n\"", b"\"a\r\"", b"'\\", b"'\\\n", b"\"\\x", b"\"\\x\r"], 3, 0);
-    assert_faults(&[b"'a\\", b"'a\\x", b"'a\\x\n'", b"L'\\u", b"L'a\\u", b"L\"\\u\n\""], 3, 0);
-    assert_faults(&[b"'ab", b"'a\\n", b"'\\u", b"'a\\u", b"''", b"'a\\q", b"'ab'", b"'a\t"], 4, 0);
-    assert_faults(&[b"\"\t", b"\"\0", b"\"\x7f", b"\"\x9f", b"'\x80'", b"\"a\x0b\n"], 4, 0);
-    assert_faults(&[b"\"\\0", b"\"\\x0", b"L\"\\u0", b"\"\\00\"", b"\"\\000\"", b"\"\\x00\"", b"\"\\08\""], 4, 0);
+    assert_faults(
+        &[b"'", b"'a", b"\"", b"\"a", b"\"a\n\"", b"\"a\r\"", b"'\\", b"'\\\n", b"\"\\x", b"\"\\x\r"],
+        OPEN,
+        0,
+    );
+    assert_faults(&[b"'a\\", b"'a\\x", b"'a\\x\n'", b"L'\\u", b"L'a\\u", b"L\"\\u\n\""], OPEN, 0);
+    assert_faults(&[b"'ab", b"'a\\n", b"'\\u", b"'a\\u", b"''", b"'a\\q", b"'ab'", b"'a\t"], BAD_LITERAL, 0);
+    assert_faults(&[b"\"\t", b"\"\0", b"\"\x7f", b"\"\x9f", b"'\x80'", b"\"a\x0b\n"], BAD_LITERAL, 0);
+    assert_faults(
+        &[b"\"\\0", b"\"\\x0", b"L\"\\u0", b"\"\\00\"", b"\"\\000\"", b"\"\\x00\"", b"\"\\08\""],
+        BAD_LITERAL,
+        0,
+    );
 }
 
 #[test]
 fn high_bytes_outside_literals() {
-    assert_faults(&[b"\x80", b"\xa0", b"\xff", b"#", b"@", b"\\", b"\0", b"\x7f", b"!", b"$", b"?", b"`"], 2, 0);
-    assert_eq!(tokens(b"a\xe9"), Err((2, 1)));
+    assert_faults(
+        &[b"\x80", b"\xa0", b"\xff", b"#", b"@", b"\\", b"\0", b"\x7f", b"!", b"$", b"?", b"`"],
+        NO_LEXEME,
+        0,
+    );
+    assert_eq!(tokens(b"a\xe9"), Err((NO_LEXEME, 1)));
     assert_eq!(tokens(b"/* \xe9 \0 */ // \xe9 \0"), Ok(vec![]));
 }
 
 #[test]
 fn comments_and_white_space() {
-    assert_tokens("\t\n\x0b\x0c\r a/**/b/***/c//d\re//\nf/ *", &[1, 1, 1, 1, 1, 85, 84]);
-    assert_faults(&[b"/*", b"/*/", b"/* *", b"/**"], 3, 0);
-    assert_eq!(tokens(b"/* /* */ */"), Ok(vec![84, 85]));
-    assert_eq!(tokens(b"'a' /*/"), Err((3, 4)));
+    assert_tokens(
+        "\t\n\x0b\x0c\r a/**/b/***/c//d\re//\nf/ *",
+        &[IDENTIFIER, IDENTIFIER, IDENTIFIER, IDENTIFIER, IDENTIFIER, kind("/"), kind("*")],
+    );
+    assert_faults(&[b"/*", b"/*/", b"/* *", b"/**"], OPEN, 0);
+    assert_eq!(tokens(b"/* /* */ */"), Ok(vec![kind("*"), kind("/")]));
+    assert_eq!(tokens(b"'a' /*/"), Err((OPEN, 4)));
 }
 
 #[test]
 fn words() {
-    assert_tokens("FALSE const long wstring constx const_ con", &[16, 26, 40, 63, 1, 1, 1]);
-    assert_faults(&[b"false", b"object", b"True", b"valuebase", b"LONG", b"IN", b"WString"], 5, 0);
-    assert_tokens("import component getraises L", &[1, 1, 1, 1]);
+    // In byte order from the first keyword on.
+    assert_tokens("FALSE const long wstring", &[16, 26, 40, 63]);
+    assert_tokens("constx const_ con", &[IDENTIFIER; 3]);
+    assert_faults(&[b"false", b"object", b"True", b"valuebase", b"LONG", b"IN", b"WString"], KEYWORD_CASE, 0);
+    assert_tokens("import component getraises L", &[IDENTIFIER; 4]);
 }
 
 #[test]
 fn marks() {
-    let kinds: Vec<u32> = (64..=87).collect();
+    let kinds: Vec<u32> = (FIRST_MARK..=LAST_MARK).collect();
     assert_tokens("; { } : , :: = ( ) < > [ ] | ^ & >> << + - * / % ~", &kinds);
-    assert_tokens(":::>>><<<", &[69, 67, 80, 74, 81, 73]);
+    assert_tokens(":::>>><<<", &[kind("::"), kind(":"), kind(">>"), kind(">"), kind("<<"), kind("<")]);
 }
 
 #[test]
 fn first_fault_by_start() {
-    assert_eq!(tokens(b"'a' Interface 'ab'"), Err((5, 4)));
-    assert_eq!(tokens(b"native A; /*"), Err((3, 10)));
+    assert_eq!(tokens(b"'a' Interface 'ab'"), Err((KEYWORD_CASE, 4)));
+    assert_eq!(tokens(b"native A; /*"), Err((OPEN, 10)));
 }
 
 #[test]
 fn spellings() {
     let text = b"native A;";
-    assert_eq!(spelling(text, &[42, 0, 6, 1, 7, 1], 1), b"A");
-    assert_eq!(spelling(text, &[42, 0, 6, 1, 7, 1], 2), b"");
-    assert_eq!(spelling(text, &[42, 0, 6, 1, 7], 1), b"");
-    assert_eq!(spelling(text, &[42, 0, 9], 0), text);
-    assert_eq!(spelling(text, &[42, 0, 10], 0), b"");
-    assert_eq!(spelling(text, &[42, 9, 1], 0), b"");
-    assert_eq!(spelling(text, &[42, u32::MAX, u32::MAX], 0), b"");
-    assert_eq!(spelling(text, &[42, 8, u32::MAX], 0), b"");
+    let native = kind("native");
+    let two = [native, 0, 6, IDENTIFIER, 7, 1];
+    assert_eq!(spelling(text, &two, 1), b"A");
+    assert_eq!(spelling(text, &two, 2), b"");
+    assert_eq!(spelling(text, &two[..5], 1), b"");
+    assert_eq!(spelling(text, &[native, 0, 9], 0), text);
+    assert_eq!(spelling(text, &[native, 0, 10], 0), b"");
+    assert_eq!(spelling(text, &[native, 9, 1], 0), b"");
+    assert_eq!(spelling(text, &[native, u32::MAX, u32::MAX], 0), b"");
+    assert_eq!(spelling(text, &[native, 8, u32::MAX], 0), b"");
 }
 
 #[test]
 fn faults_come_before_a_full_table() {
     let mut tokens = [1; 2];
-    assert_eq!(read_tokens(b"a b c 08", &mut tokens).number, 4);
+    assert_eq!(read_tokens(b"a b c 08", &mut tokens).number, BAD_LITERAL);
     assert_eq!(tokens, [0, 0]);
 }
 
 #[test]
 fn as_many_tokens_as_bytes() {
     let text = vec![b';'; TEXT_CEILING];
-    let mut tokens = vec![1; 3 * TEXT_CEILING];
+    let mut tokens = vec![1; TOKEN_NUMBERS * TEXT_CEILING];
     assert_eq!(read_tokens(&text, &mut tokens).tokens as usize, TEXT_CEILING);
-    assert_eq!(tokens[tokens.len() - 3..], [64, TEXT_CEILING as u32 - 1, 1]);
-    assert_eq!(read_tokens(&text, &mut tokens[1..]).number, 6);
+    assert_eq!(tokens[tokens.len() - TOKEN_NUMBERS..], [kind(";"), TEXT_CEILING as u32 - 1, 1]);
+    assert_eq!(read_tokens(&text, &mut tokens[1..]).number, TOKEN_TABLE_FULL);
     assert!(tokens[1..].iter().all(|&number| number == 0));
 }
 
@@ -163,18 +203,18 @@ fn as_many_tokens_as_bytes() {
 fn a_text_past_the_ceiling() {
     let mut tokens = [3; 4];
     let reply = read_tokens(&vec![b';'; TEXT_CEILING + 1], &mut tokens);
-    assert_eq!((reply.number, reply.place, reply.tokens, reply.records), (1, 0, 0, 0));
+    assert_eq!(numbers_of(reply), (BAD_CALL, 0, 0, 0));
     assert_eq!(tokens, [3; 4]);
 }
 
 #[test]
 fn token_tables_of_any_length() {
+    let wanted = [kind("native"), 1, 6, IDENTIFIER, 8, 1, kind(";"), 9, 1, 5, 5, 5];
     for length in 0..12 {
         let mut tokens = vec![5; length];
         let reply = read_tokens(b" native A;", &mut tokens);
-        let full = length < 9;
-        assert_eq!((reply.number, reply.place, reply.tokens, reply.records), (if full { 6 } else { 0 }, 10, 3, 0));
-        let wanted = [42, 1, 6, 1, 8, 1, 64, 9, 1, 5, 5, 5];
+        let full = length < 3 * TOKEN_NUMBERS;
+        assert_eq!(numbers_of(reply), (if full { TOKEN_TABLE_FULL } else { ACCEPTED }, 10, 3, 0));
         assert_eq!(tokens, if full { vec![0; length] } else { wanted[..length].to_vec() });
     }
 }

@@ -1,19 +1,21 @@
 //! The token part against the lexemes as tests on whole byte strings.
 
-use super::reader::read_tokens;
+use super::common::numbers_of;
+use super::reader::number::ACCEPTED;
+use super::reader::{read_tokens, TOKEN_NUMBERS};
 use generate::lexicon;
 use generate::{Cases, Grammar, Random};
 
 fn check(text: &[u8], grammar: &Grammar) {
-    let mut table = vec![0; 3 * text.len()];
-    let reply = read_tokens(text, &mut table);
-    let numbers = (reply.number, reply.place as usize, reply.tokens as usize, reply.records);
+    let mut table = vec![0; TOKEN_NUMBERS * text.len()];
+    let reply = numbers_of(read_tokens(text, &mut table));
     match lexicon::tokens(text, &grammar.kinds) {
         Ok(tokens) => {
-            assert_eq!(numbers, (0, text.len(), tokens.len(), 0), "{}", text.escape_ascii());
-            assert_eq!(table[..3 * tokens.len()], tokens.concat(), "{}", text.escape_ascii());
+            let wanted = (ACCEPTED, text.len() as u32, tokens.len() as u32, 0);
+            assert_eq!(reply, wanted, "{}", text.escape_ascii());
+            assert_eq!(table[..TOKEN_NUMBERS * tokens.len()], tokens.concat(), "{}", text.escape_ascii());
         }
-        Err((number, place)) => assert_eq!(numbers, (number, place, 0, 0), "{}", text.escape_ascii()),
+        Err((fault, place)) => assert_eq!(reply, (fault as u32, place as u32, 0, 0), "{}", text.escape_ascii()),
     }
 }
 

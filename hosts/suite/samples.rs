@@ -1,19 +1,22 @@
-//! The sample texts of the scope page, and the errors that other readers have made.
+//! The sample texts of the scope page, their tree records in its numbers, and the errors that other readers have made.
 
-use super::common::outcome;
-use super::reader::read;
+use super::common::{numbers_of, outcome, outcome_at};
+use super::reader::number::{
+    ACCEPTED, BAD_LITERAL, GRAMMAR, KEYWORD_CASE, OPEN, TOKEN_TABLE_FULL, TOO_DEEP, TREE_TABLE_FULL,
+};
+use super::reader::{read, DEPTH_CEILING, TOKEN_NUMBERS, TREE_NUMBERS};
 
 fn assert_accepted(text: &str, tokens: u32, records: u32) {
-    assert_eq!(outcome(text.as_bytes(), 64).numbers(), (0, text.len() as u32, tokens, records), "{text}");
+    assert_eq!(outcome(text.as_bytes()).numbers(), (ACCEPTED, text.len() as u32, tokens, records), "{text}");
 }
 
 fn assert_blamed(text: &str, place: u32) {
-    let (number, found, _, records) = outcome(text.as_bytes(), 64).numbers();
-    assert_eq!((number, found, records), (7, place, 0), "{text}");
+    let (number, found, _, records) = outcome(text.as_bytes()).numbers();
+    assert_eq!((number, found, records), (GRAMMAR, place, 0), "{text}");
 }
 
 fn assert_fault(text: &str, number: u32, place: u32) {
-    assert_eq!(outcome(text.as_bytes(), 64).numbers(), (number, place, 0, 0), "{text}");
+    assert_eq!(outcome(text.as_bytes()).numbers(), (number, place, 0, 0), "{text}");
 }
 
 const SHIFT: &str = "const long A = 1 << 8 + 4;";
@@ -26,7 +29,7 @@ fn empty() {
 #[test]
 fn native() {
     assert_accepted("native A;", 3, 4);
-    let records = outcome(b"native A;", 64).records();
+    let records = outcome(b"native A;").records();
     assert_eq!(records, [[51, 1, 2, 1], [42, 0, 2, 2], [2, 0, 3, 3], [1, 0, 3, 4]]);
 }
 
@@ -44,21 +47,21 @@ fn shift_binds_looser_than_addition() {
         [2, 0, 10, 8],
         [1, 0, 10, 9],
     ];
-    assert_eq!(outcome(SHIFT.as_bytes(), 64).records(), wanted);
+    assert_eq!(outcome(SHIFT.as_bytes()).records(), wanted);
 }
 
 #[test]
 fn shift_with_small_tables() {
     let call = |tokens: usize, records: usize| {
-        let (mut tokens, mut tree) = (vec![7; 3 * tokens], vec![7; 4 * records]);
-        let reply = read(SHIFT.as_bytes(), &mut tokens, &mut tree, 64);
-        assert_eq!(tokens.iter().all(|&number| number == 0), reply.number != 0);
-        assert_eq!(tree.iter().all(|&number| number == 0), reply.number != 0);
-        (reply.number, reply.place, reply.tokens, reply.records)
+        let (mut tokens, mut tree) = (vec![7; TOKEN_NUMBERS * tokens], vec![7; TREE_NUMBERS * records]);
+        let reply = read(SHIFT.as_bytes(), &mut tokens, &mut tree, DEPTH_CEILING);
+        assert_eq!(tokens.iter().all(|&number| number == 0), reply.number != ACCEPTED);
+        assert_eq!(tree.iter().all(|&number| number == 0), reply.number != ACCEPTED);
+        numbers_of(reply)
     };
-    assert_eq!(call(10, 8), (9, 26, 10, 9));
-    assert_eq!(call(9, 9), (6, 26, 10, 0));
-    assert_eq!(call(10, 9), (0, 26, 10, 9));
+    assert_eq!(call(10, 8), (TREE_TABLE_FULL, 26, 10, 9));
+    assert_eq!(call(9, 9), (TOKEN_TABLE_FULL, 26, 10, 0));
+    assert_eq!(call(10, 9), (ACCEPTED, 26, 10, 9));
 }
 
 #[test]
@@ -90,22 +93,22 @@ fn forward_interface_with_a_base() {
 
 #[test]
 fn keyword_in_another_case() {
-    assert_fault("interface Factory { };", 5, 10);
+    assert_fault("interface Factory { };", KEYWORD_CASE, 10);
     assert_accepted("interface _factory { };", 5, 5);
 }
 
 #[test]
 fn depth_of_parentheses() {
     let text = b"const long A = ((1));";
-    assert_eq!(outcome(text, 1).numbers(), (8, 16, 10, 0));
-    assert_eq!(outcome(text, 2).reply.number, 0);
+    assert_eq!(outcome_at(text, 1).numbers(), (TOO_DEEP, 16, 10, 0));
+    assert_eq!(outcome_at(text, 2).reply.number, ACCEPTED);
 }
 
 #[test]
 fn faults() {
-    assert_fault("const long A = 08;", 4, 15);
-    assert_fault("const string A = \"\\0\";", 4, 17);
-    assert_fault("/* x", 3, 0);
+    assert_fault("const long A = 08;", BAD_LITERAL, 15);
+    assert_fault("const string A = \"\\0\";", BAD_LITERAL, 17);
+    assert_fault("/* x", OPEN, 0);
 }
 
 #[test]
@@ -125,6 +128,6 @@ fn place_of_blame_before_a_list() {
 #[test]
 fn empty_value_leaves_no_record_of_inheritance() {
     assert_accepted("valuetype V { };", 5, 4);
-    let records = outcome(b"valuetype V { };", 64).records();
+    let records = outcome(b"valuetype V { };").records();
     assert_eq!(records, [[18, 0, 2, 1], [17, 0, 4, 2], [2, 0, 5, 3], [1, 0, 5, 4]]);
 }

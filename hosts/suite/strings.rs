@@ -1,23 +1,26 @@
 //! Neighbouring strings join: request A1.
 
-use super::common::outcome;
-use super::reader::{read, read_tokens, read_tree};
+use super::common::{numbers_of, outcome};
+use super::reader::number::{ACCEPTED, GRAMMAR, TOKEN_TABLE_FULL, TREE_TABLE_FULL};
+use super::reader::{read, read_tokens, read_tree, DEPTH_CEILING, TOKEN_NUMBERS, TREE_NUMBERS};
+use generate::kind::WIDE_STRING;
+use generate::Grammar;
 
 const LITERAL: u32 = 39;
 const CONTEXT: u32 = 94;
 
 /// The records of this rule in the tree of an accepted text.
-fn records(rule: u32, text: &str) -> Vec<[u32; 4]> {
-    let outcome = outcome(text.as_bytes(), 64);
-    assert_eq!(outcome.reply.number, 0, "{text}");
+fn records(rule: u32, text: &str) -> Vec<[u32; TREE_NUMBERS]> {
+    let outcome = outcome(text.as_bytes());
+    assert_eq!(outcome.reply.number, ACCEPTED, "{text}");
     outcome.records().into_iter().filter(|record| record[0] == rule).collect()
 }
 
 /// The text is blamed where `blamed` stands in it for the first time, or at its end.
 fn assert_blamed(text: &str, blamed: Option<&str>) {
     let place = blamed.map_or(text.len(), |token| text.find(token).expect("the token is there"));
-    let tokens = read_tokens(text.as_bytes(), &mut vec![0; 3 * text.len()]).tokens;
-    assert_eq!(outcome(text.as_bytes(), 64).numbers(), (7, place as u32, tokens, 0), "{text}");
+    let tokens = read_tokens(text.as_bytes(), &mut vec![0; TOKEN_NUMBERS * text.len()]).tokens;
+    assert_eq!(outcome(text.as_bytes()).numbers(), (GRAMMAR, place as u32, tokens, 0), "{text}");
 }
 
 /// So many strings of this spelling.
@@ -32,26 +35,33 @@ fn constant(count: usize) -> String {
 
 #[test]
 fn one_record_over_a_row_of_any_length() {
+    let [narrow_type, wide_type] = ["string_type", "wide_string_type"].map(Grammar::rule);
+    let [declaration, definition, specification] = ["const_dcl", "definition", "specification"].map(Grammar::rule);
     for count in [1, 2, 3, 1000, 100_000] {
         let past = 4 + count as u32;
         let wide = format!("const wstring A = {};", row("L\"a\"", count));
-        for (text, rule) in [(constant(count), 81), (wide, 82)] {
-            let outcome = outcome(text.as_bytes(), 64);
-            assert_eq!(outcome.numbers(), (0, text.len() as u32, past + 1, 5));
-            let literal = [LITERAL, 4, past, 1];
-            assert_eq!(
-                outcome.records(),
-                [[rule, 1, 2, 1], literal, [27, 0, past, 3], [2, 0, past + 1, 4], [1, 0, past + 1, 5]]
-            );
+        for (text, string_type) in [(constant(count), narrow_type), (wide, wide_type)] {
+            let outcome = outcome(text.as_bytes());
+            assert_eq!(outcome.numbers(), (ACCEPTED, text.len() as u32, past + 1, 5));
+            let wanted = [
+                [string_type, 1, 2, 1],
+                [LITERAL, 4, past, 1],
+                [declaration, 0, past, 3],
+                [definition, 0, past + 1, 4],
+                [specification, 0, past + 1, 5],
+            ];
+            assert_eq!(outcome.records(), wanted);
         }
     }
 }
 
 #[test]
 fn the_tokens_stay_separate() {
-    let outcome = outcome(br#"const wstring A = L"a" L"bc";"#, 64);
-    assert_eq!(outcome.tokens[12..21], [8, 18, 4, 8, 23, 5, 64, 28, 1]);
-    assert_eq!(outcome.kinds()[4..], [8, 8, 64]);
+    let outcome = outcome(br#"const wstring A = L"a" L"bc";"#);
+    let semicolon = Grammar::published().kinds.of(";");
+    let records = &outcome.tokens[4 * TOKEN_NUMBERS..7 * TOKEN_NUMBERS];
+    assert_eq!(records, [WIDE_STRING, 18, 4, WIDE_STRING, 23, 5, semicolon, 28, 1]);
+    assert_eq!(outcome.kinds()[4..], [WIDE_STRING, WIDE_STRING, semicolon]);
 }
 
 #[test]
@@ -111,7 +121,7 @@ fn joined_in_a_context() {
     ] {
         let text = operation(strings);
         assert_eq!(records(CONTEXT, &text), [[CONTEXT, 7, past, 1]], "{text}");
-        assert_eq!(records(LITERAL, &text), [[0; 4]; 0], "{text}");
+        assert_eq!(records(LITERAL, &text), [[0; TREE_NUMBERS]; 0], "{text}");
     }
     let thousand = row("\"a\"", 1000);
     assert_eq!(records(CONTEXT, &operation(&format!("{thousand}, {thousand}"))), [[CONTEXT, 7, 2011, 1]]);
@@ -141,25 +151,26 @@ fn a_row_at_the_end_of_the_text() {
 fn small_tables() {
     let text = constant(1000);
     let call = |tokens: usize, records: usize| {
-        let (mut tokens, mut tree) = (vec![7; 3 * tokens], vec![7; 4 * records]);
-        let reply = read(text.as_bytes(), &mut tokens, &mut tree, 64);
-        assert_eq!(tokens.iter().chain(&tree).all(|&number| number == 0), reply.number != 0);
-        (reply.number, reply.place as usize, reply.tokens, reply.records)
+        let (mut tokens, mut tree) = (vec![7; TOKEN_NUMBERS * tokens], vec![7; TREE_NUMBERS * records]);
+        let reply = read(text.as_bytes(), &mut tokens, &mut tree, DEPTH_CEILING);
+        assert_eq!(tokens.iter().chain(&tree).all(|&number| number == 0), reply.number != ACCEPTED);
+        numbers_of(reply)
     };
-    assert_eq!(call(1004, 5), (6, text.len(), 1005, 0));
-    assert_eq!(call(1005, 4), (9, text.len(), 1005, 5));
-    assert_eq!(call(1005, 5), (0, text.len(), 1005, 5));
+    let length = text.len() as u32;
+    assert_eq!(call(1004, 5), (TOKEN_TABLE_FULL, length, 1005, 0));
+    assert_eq!(call(1005, 4), (TREE_TABLE_FULL, length, 1005, 5));
+    assert_eq!(call(1005, 5), (ACCEPTED, length, 1005, 5));
 }
 
 /// The tree part reads a row as far as the count goes, though the table holds more of it.
 #[test]
 fn a_row_cut_by_the_count() {
     let text = constant(3).into_bytes();
-    let mut tokens = vec![0; 24];
+    let mut tokens = vec![0; TOKEN_NUMBERS * 8];
     assert_eq!(read_tokens(&text, &mut tokens).tokens, 8);
     for count in 5..8 {
-        let reply = read_tree(&tokens, count, text.len(), &mut [], 64);
-        assert_eq!((reply.number, reply.place as usize, reply.tokens), (7, text.len(), count as u32));
+        let reply = read_tree(&tokens, count, text.len(), &mut [], DEPTH_CEILING);
+        assert_eq!(numbers_of(reply), (GRAMMAR, text.len() as u32, count as u32, 0));
     }
-    assert_eq!(read_tree(&tokens, 8, text.len(), &mut [], 64).records, 5);
+    assert_eq!(read_tree(&tokens, 8, text.len(), &mut [], DEPTH_CEILING).records, 5);
 }

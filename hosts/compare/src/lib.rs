@@ -3,6 +3,7 @@
 
 use generate::cases::{depth, table_length};
 use generate::{Cases, Grammar, Random};
+use ordinary::{number, TOKEN_NUMBERS, TREE_NUMBERS};
 use std::fmt::Debug;
 
 pub mod bounds;
@@ -10,8 +11,10 @@ pub mod stack;
 
 /// Number, place and the two counts of a reply.
 pub type Numbers = [u32; 4];
+/// How many replies there are.
+pub const REPLIES: usize = number::TREE_TABLE_FULL as usize + 1;
 /// How many cases got each reply, or what the first disagreement was.
-pub type Outcome = Result<[usize; 10], String>;
+pub type Outcome = Result<[usize; REPLIES], String>;
 
 /// The numbers of the ordinary reader's reply.
 pub fn plain(reply: ordinary::Reply) -> Numbers {
@@ -51,7 +54,7 @@ fn run(seed: u64, count: usize, mut case: impl FnMut(&Cases, &mut Random) -> Res
     let grammar = Grammar::published();
     let cases = Cases::new(&grammar);
     let mut random = Random::new(seed);
-    let mut tally = [0; 10];
+    let mut tally = [0; REPLIES];
     for number in 0..count {
         let reply = case(&cases, &mut random).map_err(|what| format!("seed {seed}, case {number}: {what}"))?;
         tally[reply as usize] += 1;
@@ -64,7 +67,7 @@ pub fn token_part(seed: u64, count: usize, reader: impl Fn(&[u8], &mut [u32]) ->
     run(seed, count, |cases, random| {
         let text = cases.text(random).into_boxed_slice();
         let needed = ordinary::read_tokens(&text, &mut []).tokens as usize;
-        let before = garbage(table_length(3 * needed, random), random);
+        let before = garbage(table_length(TOKEN_NUMBERS * needed, random), random);
         let (mut ours, mut theirs) = (before.clone(), before);
         let reply = reader(&text, &mut ours);
         let wanted = plain(ordinary::read_tokens(&text, &mut theirs));
@@ -88,7 +91,7 @@ pub fn tree_part(
         let case = cases.table(random);
         let depth = depth(random);
         let needed = ordinary::read_tree(&case.tokens, case.token_count, case.text_length, &mut [], depth).records;
-        let before = garbage(table_length(4 * needed as usize, random), random);
+        let before = garbage(table_length(TREE_NUMBERS * needed as usize, random), random);
         let (mut ours, mut theirs) = (before.clone(), before);
         let reply = reader(&case.tokens, case.token_count, case.text_length, &mut ours, depth);
         let wanted = ordinary::read_tree(&case.tokens, case.token_count, case.text_length, &mut theirs, depth);
@@ -111,10 +114,10 @@ pub fn whole_reader(
     run(seed, count, |cases, random| {
         let text = cases.text(random).into_boxed_slice();
         let depth = depth(random);
-        let tokens_needed = 3 * ordinary::read_tokens(&text, &mut []).tokens as usize;
+        let tokens_needed = TOKEN_NUMBERS * ordinary::read_tokens(&text, &mut []).tokens as usize;
         let ample = ordinary::read(&text, &mut vec![0; tokens_needed], &mut [], depth);
         let tokens = garbage(table_length(tokens_needed, random), random);
-        let tree = garbage(table_length(4 * ample.records as usize, random), random);
+        let tree = garbage(table_length(TREE_NUMBERS * ample.records as usize, random), random);
         let (mut ours, mut theirs) = ((tokens.clone(), tree.clone()), (tokens, tree));
         let reply = reader(&text, &mut ours.0, &mut ours.1, depth);
         let wanted = plain(ordinary::read(&text, &mut theirs.0, &mut theirs.1, depth));
@@ -129,7 +132,7 @@ pub fn whole_reader(
     })
 }
 
-/// Compares a spelling function; the tally counts empty parts as reply 1 and others as reply 0.
+/// Compares a spelling function; the tally counts empty parts as bad calls and others as accepted.
 pub fn spellings(seed: u64, count: usize, reader: impl for<'a> Fn(&'a [u8], &[u32], usize) -> &'a [u8]) -> Outcome {
     run(seed, count, |_, random| {
         let text: Vec<u8> = (0..8 + random.below(12)).map(|_| random.byte()).collect();
@@ -140,7 +143,7 @@ pub fn spellings(seed: u64, count: usize, reader: impl for<'a> Fn(&'a [u8], &[u3
         };
         let tokens: Vec<u32> = (0..10 + random.below(6)).map(|_| number(random)).collect();
         let record = match random.below(8) {
-            0 => usize::MAX / 3 + random.below(3),
+            0 => usize::MAX / TOKEN_NUMBERS + random.below(3),
             1 => usize::MAX - random.below(3),
             _ => random.below(5),
         };
@@ -149,6 +152,6 @@ pub fn spellings(seed: u64, count: usize, reader: impl for<'a> Fn(&'a [u8], &[u3
         if !theirs.is_empty() {
             agree(&(&text, &tokens, record), "start", &ours.as_ptr(), &theirs.as_ptr())?;
         }
-        Ok(u32::from(theirs.is_empty()))
+        Ok(if theirs.is_empty() { number::BAD_CALL } else { number::ACCEPTED })
     })
 }

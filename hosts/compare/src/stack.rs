@@ -1,6 +1,7 @@
 //! How much stack a call takes: it runs on a thread whose stack was filled with a pattern before.
 
 use std::ffi::c_void;
+use std::mem::size_of;
 
 const SIZE: usize = 1 << 20;
 const PATTERN: u8 = 0xa5;
@@ -40,7 +41,7 @@ pub fn of_call(call: &mut dyn FnMut()) -> usize {
 
 /// The bytes of its stack that a thread touches when it runs this call.
 fn touched(mut call: &mut dyn FnMut()) -> usize {
-    let mut stack: Vec<Page> = (0..SIZE / 4096).map(|_| Page([PATTERN; 4096])).collect();
+    let mut stack: Vec<Page> = (0..SIZE / size_of::<Page>()).map(|_| Page([PATTERN; 4096])).collect();
     let mut attributes = Attributes([0; 64]);
     let mut thread = 0;
     let argument: *mut &mut dyn FnMut() = &mut call;

@@ -1,8 +1,10 @@
 //! The comparison notices planted mistakes.
 
 use compare::{plain, spellings, token_part, tree_part, whole_reader, Numbers, Outcome};
-use generate::kind::STRINGS;
-use ordinary::{read, read_tokens, read_tree, spelling};
+use generate::kind::{STRINGS, WIDE_STRING};
+use generate::Grammar;
+use ordinary::number::{ACCEPTED, BAD_CALL, TOKEN_TABLE_FULL, TREE_TABLE_FULL};
+use ordinary::{read, read_tokens, read_tree, spelling, DEPTH_CEILING, TEXT_CEILING, TOKEN_NUMBERS, TREE_NUMBERS};
 
 const CASES: usize = 20_000;
 
@@ -22,7 +24,7 @@ fn nothing_planted() {
 
 #[test]
 fn false_counts() {
-    for number in [6, 9] {
+    for number in [TOKEN_TABLE_FULL, TREE_TABLE_FULL] {
         let counted = |reply: Numbers| match reply {
             [found, place, tokens, 0] if found == number => [found, place, tokens + 1, 0],
             [found, place, tokens, records] if found == number => [found, place, tokens, records + 1],
@@ -37,11 +39,11 @@ fn false_counts() {
 #[test]
 fn numbers_past_the_last_whole_record_kept() {
     assert_noticed(tree_part(1, CASES, |tokens, count, length, tree, depth| {
-        let whole = tree.len() / 4 * 4;
+        let whole = tree.len() / TREE_NUMBERS * TREE_NUMBERS;
         plain(read_tree(tokens, count, length, &mut tree[..whole], depth))
     }));
     assert_noticed(token_part(1, CASES, |text, tokens| {
-        let whole = tokens.len() / 3 * 3;
+        let whole = tokens.len() / TOKEN_NUMBERS * TOKEN_NUMBERS;
         plain(read_tokens(text, &mut tokens[..whole]))
     }));
 }
@@ -58,7 +60,7 @@ fn numbers_after_the_last_record_cleared() {
 fn tables_cleared_by_a_bad_call() {
     assert_noticed(whole_reader(1, CASES, |text, tokens, tree, depth| {
         let reply = plain(read(text, tokens, tree, depth));
-        if reply[0] != 0 {
+        if reply[0] != ACCEPTED {
             tree.fill(0);
         }
         reply
@@ -68,13 +70,13 @@ fn tables_cleared_by_a_bad_call() {
 #[test]
 fn ceilings_off_by_one() {
     assert_noticed(whole_reader(1, CASES, |text, tokens, tree, depth| {
-        plain(read(text, tokens, tree, if depth == 65 { 64 } else { depth }))
+        plain(read(text, tokens, tree, if depth == DEPTH_CEILING + 1 { DEPTH_CEILING } else { depth }))
     }));
     assert_noticed(whole_reader(1, CASES, |text, tokens, tree, depth| {
-        plain(read(text, tokens, tree, if depth == 64 { 63 } else { depth }))
+        plain(read(text, tokens, tree, if depth == DEPTH_CEILING { DEPTH_CEILING - 1 } else { depth }))
     }));
     assert_noticed(token_part(1, CASES, |text, tokens| match text.len() {
-        1_048_576 => [1, 0, 0, 0],
+        TEXT_CEILING => [BAD_CALL, 0, 0, 0],
         _ => plain(read_tokens(text, tokens)),
     }));
 }
@@ -83,7 +85,7 @@ fn ceilings_off_by_one() {
 fn kinds_compared_by_their_low_part() {
     for mask in [0xff, 0xffff, 0x7fff_ffff] {
         assert_noticed(tree_part(1, CASES, |tokens, count, length, tree, depth| {
-            let low = |(at, &number): (usize, &u32)| if at % 3 == 0 { number & mask } else { number };
+            let low = |(at, &number): (usize, &u32)| if at % TOKEN_NUMBERS == 0 { number & mask } else { number };
             let low: Vec<u32> = tokens.iter().enumerate().map(low).collect();
             plain(read_tree(&low, count, length, tree, depth))
         }));
@@ -93,15 +95,16 @@ fn kinds_compared_by_their_low_part() {
 /// The token table with another kind for each string directly behind a string, from the kinds of both.
 fn second_strings(tokens: &[u32], kind: fn(u32, u32) -> u32) -> Vec<u32> {
     let mut tokens = tokens.to_vec();
-    for at in (3..tokens.len()).step_by(3) {
-        if STRINGS.contains(&tokens[at - 3]) && STRINGS.contains(&tokens[at]) {
-            tokens[at] = kind(tokens[at - 3], tokens[at]);
+    for at in (TOKEN_NUMBERS..tokens.len()).step_by(TOKEN_NUMBERS) {
+        let before = tokens[at - TOKEN_NUMBERS];
+        if STRINGS.contains(&before) && STRINGS.contains(&tokens[at]) {
+            tokens[at] = kind(before, tokens[at]);
         }
     }
     tokens
 }
 
-const NO_KIND: u32 = 9;
+const NO_KIND: u32 = WIDE_STRING + 1;
 
 #[test]
 fn strings_not_joined() {
@@ -121,11 +124,12 @@ fn strings_of_both_kinds_joined() {
 
 #[test]
 fn a_literal_recorded_over_its_first_string() {
+    let literal = Grammar::rule("literal");
     assert_noticed(tree_part(1, CASES, |tokens, count, length, tree, depth| {
         let reply = plain(read_tree(tokens, count, length, tree, depth));
-        if reply[0] == 0 {
-            let literals = tree.chunks_exact_mut(4).take(reply[3] as usize).filter(|record| record[0] == 39);
-            literals.for_each(|record| record[2] = record[1] + 1);
+        if reply[0] == ACCEPTED {
+            let records = tree.chunks_exact_mut(TREE_NUMBERS).take(reply[3] as usize);
+            records.filter(|record| record[0] == literal).for_each(|record| record[2] = record[1] + 1);
         }
         reply
     }));
@@ -134,7 +138,7 @@ fn a_literal_recorded_over_its_first_string() {
 #[test]
 fn spans_that_leave_the_text_cut_short() {
     assert_noticed(spellings(1, CASES, |text, tokens, record| {
-        let (first, length) = match tokens.chunks_exact(3).nth(record) {
+        let (first, length) = match tokens.chunks_exact(TOKEN_NUMBERS).nth(record) {
             Some(&[_, first, length]) => (first as usize, length as usize),
             _ => (0, 0),
         };

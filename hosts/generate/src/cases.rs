@@ -7,6 +7,12 @@ use crate::random::Random;
 use crate::sentence::Sentences;
 use crate::text::{spell, Layout};
 
+/// The limits of a reader, and the numbers of a token record and of a tree record.
+const TEXT_CEILING: usize = 1_048_576;
+const DEPTH_CEILING: u32 = 64;
+pub const TOKEN_NUMBERS: usize = 3;
+pub const TREE_NUMBERS: usize = 4;
+
 /// A token table for the tree part, with the count and text length of the call.
 #[derive(Debug)]
 pub struct TableCase {
@@ -23,10 +29,6 @@ pub struct Cases<'a> {
 impl<'a> Cases<'a> {
     pub fn new(grammar: &'a Grammar) -> Self {
         Cases { grammar, sentences: Sentences::new(grammar) }
-    }
-
-    pub fn sentences(&self) -> &Sentences<'a> {
-        &self.sentences
     }
 
     /// A text: valid, with its tokens damaged, with its bytes damaged, or without any plan.
@@ -47,13 +49,13 @@ impl<'a> Cases<'a> {
             damage_text(&mut text, random);
         }
         if random.once_in(400) {
-            text.resize(1_048_574 + random.below(5), b' ');
+            text.resize(TEXT_CEILING - 2 + random.below(5), b' ');
         }
         text
     }
 
     /// A valid list of kinds, mostly short, now and then nested up to the depth ceiling or past it.
-    pub fn kinds(&self, random: &mut Random) -> Vec<u32> {
+    fn kinds(&self, random: &mut Random) -> Vec<u32> {
         if random.once_in(40) {
             return nested(random.below(WAYS), random.below(70), self.grammar);
         }
@@ -100,14 +102,14 @@ impl<'a> Cases<'a> {
         tokens.extend((0..beyond).map(|_| random.number() as u32));
         let token_count = match random.below(16) {
             0 => random.below(count + 1),
-            1 => tokens.len() / 3 + random.below(2),
+            1 => tokens.len() / TOKEN_NUMBERS + random.below(2),
             _ => count,
         };
         let text_length = match random.below(16) {
             0 => token_count,
             1 => token_count.saturating_sub(1),
-            2 => 1_048_576 + random.below(2),
-            3 => 1 << (20 + random.below(40)),
+            2 => TEXT_CEILING + random.below(2),
+            3 => TEXT_CEILING << random.below(40),
             _ => 2 * count + random.below(10),
         };
         tokens.shrink_to_fit();
@@ -126,11 +128,15 @@ pub fn table_length(exact: usize, random: &mut Random) -> usize {
     }
 }
 
+/// Depth settings out of range; the low part of some is in range.
+const BAD_DEPTHS: [u32; 7] =
+    [0, DEPTH_CEILING + 1, DEPTH_CEILING + 2, 200, DEPTH_CEILING + 256, DEPTH_CEILING + 65536, u32::MAX];
+
 /// A depth setting, mostly ample, now and then out of range.
 pub fn depth(random: &mut Random) -> u32 {
     match random.below(12) {
-        0 => *random.pick(&[0, 65, 66, 200, 320, 65600, u32::MAX]),
+        0 => *random.pick(&BAD_DEPTHS),
         1..=4 => 1 + random.below(5) as u32,
-        _ => 64,
+        _ => DEPTH_CEILING,
     }
 }

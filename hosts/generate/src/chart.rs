@@ -1,8 +1,14 @@
 //! A slow reader to judge the fast ones: a chart of production, dot and start, filled token by token, over the rules
 //! as data. It knows acceptance, the place of blame and the one derivation, and nothing of prediction.
 
+use crate::cases::TREE_NUMBERS;
 use crate::grammar::{Grammar, Side};
 use std::collections::{HashMap, HashSet};
+
+/// The rule that a whole list is derived from.
+const SPECIFICATION: usize = 1;
+/// A rule that is recorded also where its right side as used is one nonterminal.
+const INTERFACE_BODY: usize = 8;
 
 #[derive(Clone, Copy, Debug, PartialEq, Eq, Hash)]
 enum Symbol {
@@ -16,11 +22,14 @@ struct Production {
     right: Vec<Symbol>,
 }
 
+/// A tree record: rule, first token, one past the last token, records in its subtree with itself.
+pub type Record = [u32; TREE_NUMBERS];
+
 /// What a token list means: the number of the token blamed (the end has the list's length), or its tree records.
 #[derive(Debug, PartialEq, Eq)]
 pub enum Meaning {
     Blame(usize),
-    Records(Vec<[u32; 4]>),
+    Records(Vec<Record>),
 }
 
 /// The productions of a grammar, each name's together.
@@ -133,7 +142,7 @@ impl Chart {
     /// The sets of items after each beginning of a list, as far as some derivable list begins so.
     fn sets(&self, kinds: &[u32]) -> Vec<Set> {
         let mut sets = vec![Set::default()];
-        for &production in &self.of_name[1] {
+        for &production in &self.of_name[SPECIFICATION] {
             sets[0].add(Item { production, dot: 0, start: 0 });
         }
         self.close(&mut sets);
@@ -226,13 +235,13 @@ struct Derivation<'a> {
 impl Derivation<'_> {
     fn meaning(mut self) -> Meaning {
         let count = self.kinds.len();
-        let ways = self.ways_of_name(1, 0, count);
+        let ways = self.ways_of_name(SPECIFICATION, 0, count);
         assert!(ways <= 1, "a token list has {ways} derivations");
         if ways == 0 {
             return Meaning::Blame(count);
         }
         let mut records = Vec::new();
-        self.write_rule(1, 0, count, &mut records);
+        self.write_rule(SPECIFICATION, 0, count, &mut records);
         Meaning::Records(records)
     }
 
@@ -283,26 +292,19 @@ impl Derivation<'_> {
     }
 
     /// Writes the records of a use of a rule, children first.
-    fn write_rule(&mut self, rule: usize, start: usize, end: usize, records: &mut Vec<[u32; 4]>) {
+    fn write_rule(&mut self, rule: usize, start: usize, end: usize, records: &mut Vec<Record>) {
         let first_record = records.len();
         let mut used = Vec::new();
         self.write_name(rule, start, end, records, &mut used);
         let one_nonterminal = matches!(used[..], [Symbol::Name(_)]);
-        if !one_nonterminal || rule == 1 || rule == 8 {
+        if !one_nonterminal || rule == SPECIFICATION || rule == INTERFACE_BODY {
             let size = records.len() - first_record + 1;
             records.push([rule as u32, start as u32, end as u32, size as u32]);
         }
     }
 
     /// Writes the records of a name's right side; `used` gets the rule's right side as used.
-    fn write_name(
-        &mut self,
-        name: usize,
-        start: usize,
-        end: usize,
-        records: &mut Vec<[u32; 4]>,
-        used: &mut Vec<Symbol>,
-    ) {
+    fn write_name(&mut self, name: usize, start: usize, end: usize, records: &mut Vec<Record>, used: &mut Vec<Symbol>) {
         let chart = self.chart;
         let finished: Vec<Item> = chart.of_name[name].iter().map(|&each| self.finished(each, start)).collect();
         let item = finished.into_iter().find(|&item| self.ways_of(item, end) > 0).expect("the name derives this");

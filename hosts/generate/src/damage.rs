@@ -1,6 +1,6 @@
 //! Damage to texts and token lists.
 
-use crate::kind::STRINGS;
+use crate::kind::{self, FIRST_KEYWORD, LAST_MARK, STRINGS, WIDE_STRING};
 use crate::random::Random;
 
 /// Lexemes and beginnings of lexemes that readers get wrong.
@@ -125,16 +125,14 @@ fn change_width(kinds: &mut [u32]) -> bool {
 
 /// A kind that the token part gives.
 pub fn any_kind(random: &mut Random) -> u32 {
-    match random.below(8 + 48 + 24) as u32 {
-        class @ 0..=7 => class + 1,
-        terminal => terminal + 8,
-    }
+    let kinds: Vec<u32> = kind::all().collect();
+    *random.pick(&kinds)
 }
 
 /// A number that is no kind, often one that shares its low byte with a kind.
 pub fn no_kind(random: &mut Random) -> u32 {
     match random.below(4) {
-        0 => *random.pick(&[0, 9, 15, 88, 127, u32::MAX]),
+        0 => *random.pick(&[0, WIDE_STRING + 1, FIRST_KEYWORD - 1, LAST_MARK + 1, 127, u32::MAX]),
         1 => any_kind(random) + 256,
         2 => any_kind(random) + 65536,
         _ => any_kind(random) | 1 << 31,

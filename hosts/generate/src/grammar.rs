@@ -1,6 +1,6 @@
 //! The published rules as data, read from their text.
 
-use crate::kind::{Kinds, CLASSES};
+use crate::kind::{Kinds, CLASSES, IDENTIFIER};
 
 /// The right side of a rule, or a part of it.
 #[derive(Clone, Debug, PartialEq, Eq)]
@@ -12,6 +12,18 @@ pub enum Side {
     Optional(Box<Side>),
     ZeroOrMore(Box<Side>),
     OneOrMore(Box<Side>),
+}
+
+impl Side {
+    /// Whether each alternative is one rule alone.
+    pub fn is_one_rule(&self) -> bool {
+        match self {
+            Side::Rule(_) => true,
+            Side::Choice(sides) => sides.iter().all(Side::is_one_rule),
+            Side::Sequence(sides) => matches!(&sides[..], [side] if side.is_one_rule()),
+            _ => false,
+        }
+    }
 }
 
 pub struct Grammar {
@@ -28,6 +40,12 @@ impl Grammar {
         let words = words(TEXT);
         let name = |at: usize| words[at - 1].trim_matches(&['<', '>'][..]).to_string();
         (0..words.len()).filter(|&at| words[at] == "::=").map(name).collect()
+    }
+
+    /// The number of the rule of this name.
+    pub fn rule(name: &str) -> u32 {
+        let place = Grammar::names().iter().position(|known| known == name);
+        place.unwrap_or_else(|| panic!("no rule is named {name}")) as u32 + 1
     }
 
     /// The rules 1 to 99.
@@ -152,7 +170,7 @@ impl SideReader<'_> {
     fn named(&self, word: &str) -> Side {
         let name = word.trim_start_matches('<').trim_end_matches('>');
         if let Some(class) = CLASSES.iter().position(|&class| class == name) {
-            return Side::Token(class as u32 + 1);
+            return Side::Token(IDENTIFIER + class as u32);
         }
         let rule = self.names.iter().position(|&known| known == word);
         Side::Rule(rule.unwrap_or_else(|| panic!("no rule is named {word}")) + 1)

@@ -1,6 +1,23 @@
 //! The kinds of token by spelling, straight from the scope page.
 
-/// The classes of token that the grammar names as nonterminals, kinds 1 to 8 in this order.
+pub const IDENTIFIER: u32 = 1;
+pub const INTEGER: u32 = 2;
+pub const FLOATING: u32 = 3;
+pub const FIXED: u32 = 4;
+pub const CHARACTER: u32 = 5;
+pub const WIDE_CHARACTER: u32 = 6;
+pub const STRING: u32 = 7;
+pub const WIDE_STRING: u32 = 8;
+pub const FIRST_KEYWORD: u32 = 16;
+pub const FIRST_MARK: u32 = 64;
+pub const LAST_MARK: u32 = 87;
+
+/// Every kind that the token part gives.
+pub fn all() -> impl Iterator<Item = u32> {
+    (IDENTIFIER..=WIDE_STRING).chain(FIRST_KEYWORD..=LAST_MARK)
+}
+
+/// The classes of token that the grammar names as nonterminals, in the order of their kinds.
 pub const CLASSES: [&str; 8] = [
     "identifier",
     "integer_literal",
@@ -12,14 +29,11 @@ pub const CLASSES: [&str; 8] = [
     "wide_string_literal",
 ];
 
-/// The marks in the order of their kinds, 64 to 87.
+/// The marks in the order of their kinds.
 pub const MARKS: &str = "; { } : , :: = ( ) < > [ ] | ^ & >> << + - * / % ~";
 
 /// The kinds of strings, narrow and wide.
-pub const STRINGS: [u32; 2] = [7, 8];
-
-pub const FIRST_KEYWORD: u32 = 16;
-pub const FIRST_MARK: u32 = 64;
+pub const STRINGS: [u32; 2] = [STRING, WIDE_STRING];
 
 /// The kinds of the marks that open and close, one pair a place.
 pub const OPENING: [&str; 4] = ["(", "{", "[", "<"];

@@ -1,10 +1,23 @@
 //! A slow token part to judge the fast ones: what each lexeme is, as a test on whole byte strings, and the longest
 //! one taken by trying every length.
 
-use crate::kind::Kinds;
+use crate::cases::TOKEN_NUMBERS;
+use crate::kind::{self, Kinds, MARKS};
 
-/// The token records of a text, or the number and place of its first fault.
-pub type Tokens = Result<Vec<[u32; 3]>, (u32, usize)>;
+/// What is wrong with a text, by the number of its reply.
+#[derive(Clone, Copy)]
+pub enum Fault {
+    NoLexeme = 2,
+    Open = 3,
+    BadLiteral = 4,
+    KeywordCase = 5,
+}
+
+/// The token records of a text, or its first fault and the place of it.
+pub type Tokens = Result<Vec<[u32; TOKEN_NUMBERS]>, (Fault, usize)>;
+
+/// No word, number or mark is tried that is longer than this.
+const LONGEST: usize = 100;
 
 /// What a whole byte string is.
 #[derive(Clone, Copy, PartialEq, Eq)]
@@ -21,11 +34,11 @@ pub fn tokens(text: &[u8], kinds: &Kinds) -> Tokens {
     let mut at = 0;
     while at < text.len() {
         let rest = &text[at..];
-        if let Some(length) = blank_length(rest).map_err(|number| (number, at))? {
+        if let Some(length) = blank_length(rest).map_err(|fault| (fault, at))? {
             at += length;
             continue;
         }
-        let (kind, length) = lexeme(rest, kinds).map_err(|number| (number, at))?;
+        let (kind, length) = lexeme(rest, kinds).map_err(|fault| (fault, at))?;
         tokens.push([kind, at as u32, length as u32]);
         at += length;
     }
@@ -33,51 +46,56 @@ pub fn tokens(text: &[u8], kinds: &Kinds) -> Tokens {
 }
 
 /// The length of the white space or comment that the bytes begin with, if they do.
-fn blank_length(rest: &[u8]) -> Result<Option<usize>, u32> {
-    if [9, 10, 11, 12, 13, 32].contains(&rest[0]) {
+fn blank_length(rest: &[u8]) -> Result<Option<usize>, Fault> {
+    if b"\t\n\x0b\x0c\r ".contains(&rest[0]) {
         return Ok(Some(1));
     }
     if rest.starts_with(b"//") {
-        let end = rest.iter().position(|&byte| byte == 10 || byte == 13);
+        let end = rest.iter().position(|&byte| byte == b'\n' || byte == b'\r');
         return Ok(Some(end.unwrap_or(rest.len())));
     }
     if rest.starts_with(b"/*") {
         let ends = |end: &usize| rest[..*end].ends_with(b"*/");
-        return (4..=rest.len()).find(ends).map(Some).ok_or(3);
+        return (4..=rest.len()).find(ends).map(Some).ok_or(Fault::Open);
     }
     Ok(None)
 }
 
-fn lexeme(rest: &[u8], kinds: &Kinds) -> Result<(u32, usize), u32> {
+fn lexeme(rest: &[u8], kinds: &Kinds) -> Result<(u32, usize), Fault> {
     for prefix in [&b"L"[..], b""] {
         let after = rest.strip_prefix(prefix).unwrap_or(b"");
         if after.starts_with(b"'") || after.starts_with(b"\"") {
             let wide = !prefix.is_empty();
             let length = literal_length(&after[1..], after[0], wide)?;
-            let kind = 5 + u32::from(wide) + 2 * u32::from(after[0] == b'"');
+            let kind = match (after[0], wide) {
+                (b'"', false) => kind::STRING,
+                (b'"', true) => kind::WIDE_STRING,
+                (_, false) => kind::CHARACTER,
+                (_, true) => kind::WIDE_CHARACTER,
+            };
             return Ok((kind, prefix.len() + length + 1));
         }
     }
     let bound = rest.iter().position(|byte| byte.is_ascii_whitespace()).unwrap_or(rest.len());
-    let longest = (1..=bound.min(100)).rev().find_map(|length| Some((class(&rest[..length], kinds)?, length)));
-    let (class, length) = longest.ok_or(2u32)?;
+    let longest = (1..=bound.min(LONGEST)).rev().find_map(|length| Some((class(&rest[..length], kinds)?, length)));
+    let (class, length) = longest.ok_or(Fault::NoLexeme)?;
     let next = rest.get(length).copied().unwrap_or(b' ');
     match class {
         Class::Mark(kind) => Ok((kind, length)),
-        Class::Escaped => Ok((1, length)),
-        Class::Number(_) if is_word_byte(next) => Err(4),
+        Class::Escaped => Ok((kind::IDENTIFIER, length)),
+        Class::Number(_) if is_word_byte(next) => Err(Fault::BadLiteral),
         Class::Number(kind) => Ok((kind, length)),
         Class::Word => Ok((word_kind(&rest[..length], kinds)?, length)),
     }
 }
 
-fn word_kind(word: &[u8], kinds: &Kinds) -> Result<u32, u32> {
+fn word_kind(word: &[u8], kinds: &Kinds) -> Result<u32, Fault> {
     let same = kinds.keywords().find(|keyword| keyword.as_bytes() == word);
     let similar = kinds.keywords().find(|keyword| keyword.as_bytes().eq_ignore_ascii_case(word));
     match (same, similar) {
         (Some(keyword), _) => Ok(kinds.of(keyword)),
-        (None, Some(_)) => Err(5),
-        (None, None) => Ok(1),
+        (None, Some(_)) => Err(Fault::KeywordCase),
+        (None, None) => Ok(kind::IDENTIFIER),
     }
 }
 
@@ -88,11 +106,13 @@ fn class(bytes: &[u8], kinds: &Kinds) -> Option<Class> {
     if bytes.strip_prefix(b"_").map_or(false, is_word) {
         return Some(Class::Escaped);
     }
-    if let Some(kind) = [is_integer(bytes), is_floating(bytes), is_fixed(bytes)].iter().position(|&is| is) {
-        return Some(Class::Number(2 + kind as u32));
+    let numbers =
+        [(kind::INTEGER, is_integer(bytes)), (kind::FLOATING, is_floating(bytes)), (kind::FIXED, is_fixed(bytes))];
+    if let Some((kind, _)) = numbers.into_iter().find(|&(_, is)| is) {
+        return Some(Class::Number(kind));
     }
     let spelling = std::str::from_utf8(bytes).ok()?;
-    crate::kind::MARKS.split(' ').any(|mark| mark == spelling).then(|| Class::Mark(kinds.of(spelling)))
+    MARKS.split(' ').any(|mark| mark == spelling).then(|| Class::Mark(kinds.of(spelling)))
 }
 
 fn is_word_byte(byte: u8) -> bool {
@@ -146,21 +166,21 @@ fn is_fixed(bytes: &[u8]) -> bool {
 enum Piece {
     Character { length: usize, number: Option<u32> },
     Close,
-    Fault(u32),
+    Fault(Fault),
 }
 
 /// The length of a literal from behind its opening quote, closing quote included.
-fn literal_length(inside: &[u8], quote: u8, wide: bool) -> Result<usize, u32> {
+fn literal_length(inside: &[u8], quote: u8, wide: bool) -> Result<usize, Fault> {
     let is_string = quote == b'"';
     let mut length = 0;
     let mut characters = 0;
     loop {
         match piece(&inside[length..], quote, wide) {
-            Piece::Fault(number) => return Err(number),
-            Piece::Close if !is_string && characters != 1 => return Err(4),
+            Piece::Fault(fault) => return Err(fault),
+            Piece::Close if !is_string && characters != 1 => return Err(Fault::BadLiteral),
             Piece::Close => return Ok(length + 1),
-            Piece::Character { .. } if !is_string && characters == 1 => return Err(4),
-            Piece::Character { number: Some(0), .. } if is_string => return Err(4),
+            Piece::Character { .. } if !is_string && characters == 1 => return Err(Fault::BadLiteral),
+            Piece::Character { number: Some(0), .. } if is_string => return Err(Fault::BadLiteral),
             Piece::Character { length: more, .. } => length += more,
         }
         characters += 1;
@@ -169,33 +189,34 @@ fn literal_length(inside: &[u8], quote: u8, wide: bool) -> Result<usize, u32> {
 
 fn piece(rest: &[u8], quote: u8, wide: bool) -> Piece {
     match rest {
-        [] | [10 | 13, ..] => Piece::Fault(3),
+        [] | [b'\n' | b'\r', ..] => Piece::Fault(Fault::Open),
         [b'\\', escaped @ ..] => escape(escaped, wide),
         [byte, ..] if *byte == quote => Piece::Close,
-        [32..=126 | 160..=255, ..] => Piece::Character { length: 1, number: None },
-        _ => Piece::Fault(4),
+        [b' '..=b'~' | 0xa0..=0xff, ..] => Piece::Character { length: 1, number: None },
+        _ => Piece::Fault(Fault::BadLiteral),
     }
 }
 
 /// The escape with these bytes after its backslash.
 fn escape(escaped: &[u8], wide: bool) -> Piece {
     let (mark_length, most, radix) = match escaped {
-        [] | [10 | 13, ..] => return Piece::Fault(3),
+        [] | [b'\n' | b'\r', ..] => return Piece::Fault(Fault::Open),
         [byte, ..] if b"ntvbrfa\\?'\"".contains(byte) => return Piece::Character { length: 2, number: None },
         [b'0'..=b'7', ..] => (0, 3, 8),
         [b'x', ..] => (1, 2, 16),
         [b'u', ..] if wide => (1, 4, 16),
-        _ => return Piece::Fault(4),
+        _ => return Piece::Fault(Fault::BadLiteral),
     };
     let digits = &escaped[mark_length..];
     let count = (0..=most.min(digits.len())).rev().find(|&count| all_digits(&digits[..count], radix)).unwrap_or(0);
     if count == 0 {
-        return Piece::Fault(if matches!(digits, [] | [10 | 13, ..]) { 3 } else { 4 });
+        let cut_short = matches!(digits, [] | [b'\n' | b'\r', ..]);
+        return Piece::Fault(if cut_short { Fault::Open } else { Fault::BadLiteral });
     }
     let spelling: String = digits[..count].iter().map(|&byte| char::from(byte)).collect();
     match u32::from_str_radix(&spelling, radix) {
-        Ok(number) if radix == 8 && number > 255 => Piece::Fault(4),
+        Ok(number) if radix == 8 && number > 0o377 => Piece::Fault(Fault::BadLiteral),
         Ok(number) => Piece::Character { length: 1 + mark_length + count, number: Some(number) },
-        Err(_) => Piece::Fault(4),
+        Err(_) => Piece::Fault(Fault::BadLiteral),
     }
 }

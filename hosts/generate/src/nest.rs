@@ -1,6 +1,7 @@
 //! Token lists that nest to a given depth.
 
 use crate::grammar::Grammar;
+use crate::kind::{IDENTIFIER, INTEGER};
 
 /// A way to nest: what stands before, what opens, the middle, what closes, what stands after.
 /// Words that are no terminals are identifiers, and 1 is an integer.
@@ -25,8 +26,8 @@ pub fn nested(way: usize, times: usize, grammar: &Grammar) -> Vec<u32> {
 
 fn kinds(words: &str, grammar: &Grammar) -> Vec<u32> {
     let kind = |word| match word {
-        "A" => 1,
-        "1" => 2,
+        "A" => IDENTIFIER,
+        "1" => INTEGER,
         terminal => grammar.kinds.of(terminal),
     };
     words.split_whitespace().map(kind).collect()

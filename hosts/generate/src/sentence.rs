@@ -39,13 +39,6 @@ impl<'a> Sentences<'a> {
         kinds
     }
 
-    /// A list for one rule, of about `size` tokens.
-    pub fn kinds_of_rule(&self, rule: usize, random: &mut Random, size: usize) -> Vec<u32> {
-        let mut kinds = Vec::new();
-        self.expand_rule(rule, random, size, &mut kinds);
-        kinds
-    }
-
     fn expand_rule(&self, rule: usize, random: &mut Random, planned: usize, kinds: &mut Vec<u32>) {
         let side = &self.grammar.rules[rule];
         match side {

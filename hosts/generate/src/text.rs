@@ -1,6 +1,7 @@
 //! From kinds of token to bytes: random spellings and what stands between them.
 
 use crate::grammar::Grammar;
+use crate::kind;
 use crate::random::Random;
 
 /// What stands between tokens: a space or line end, or anything that is blank and sometimes nothing.
@@ -83,19 +84,19 @@ fn blank(random: &mut Random) -> Vec<u8> {
 }
 
 /// A spelling of this kind.
-pub fn token(kind: u32, grammar: &Grammar, random: &mut Random) -> Vec<u8> {
+fn token(kind: u32, grammar: &Grammar, random: &mut Random) -> Vec<u8> {
     if let Some(spelling) = grammar.kinds.spelling(kind) {
         return spelling.as_bytes().to_vec();
     }
     match kind {
-        1 => identifier(grammar, random),
-        2 => integer(random),
-        3 => floating(random),
-        4 => fixed(random),
-        5 => [b"'".to_vec(), character(random, b'\'', false), b"'".to_vec()].concat(),
-        6 => [b"L'".to_vec(), character(random, b'\'', true), b"'".to_vec()].concat(),
-        7 => [b"\"".to_vec(), characters(random, false), b"\"".to_vec()].concat(),
-        8 => [b"L\"".to_vec(), characters(random, true), b"\"".to_vec()].concat(),
+        kind::IDENTIFIER => identifier(grammar, random),
+        kind::INTEGER => integer(random),
+        kind::FLOATING => floating(random),
+        kind::FIXED => fixed(random),
+        kind::CHARACTER => [b"'".to_vec(), character(random, b'\'', false), b"'".to_vec()].concat(),
+        kind::WIDE_CHARACTER => [b"L'".to_vec(), character(random, b'\'', true), b"'".to_vec()].concat(),
+        kind::STRING => [b"\"".to_vec(), characters(random, false), b"\"".to_vec()].concat(),
+        kind::WIDE_STRING => [b"L\"".to_vec(), characters(random, true), b"\"".to_vec()].concat(),
         _ => panic!("no token is of kind {kind}"),
     }
 }
@@ -165,9 +166,9 @@ fn character(random: &mut Random, quote: u8, wide: bool) -> Vec<u8> {
         1 => [b"\\".to_vec(), some(b"123", 1, 1, random), some(OCTAL, 2, 2, random)].concat(),
         2 => [b"\\x".to_vec(), some(&HEX[1..], 2, 2, random)].concat(),
         3 if wide => [b"\\u".to_vec(), some(&HEX[1..], 4, 4, random)].concat(),
-        4 => vec![160 + random.below(96) as u8],
+        4 => vec![0xa0 + random.below(96) as u8],
         _ => {
-            let byte = 32 + random.below(95) as u8;
+            let byte = b' ' + random.below(95) as u8;
             vec![if byte == quote || byte == b'\\' { b' ' } else { byte }]
         }
     }

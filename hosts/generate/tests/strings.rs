@@ -1,10 +1,8 @@
 //! The random lists reach strings side by side.
 
+use generate::chart::Record;
 use generate::kind::STRINGS;
 use generate::{Cases, Chart, Grammar, Meaning, Random};
-
-const LITERAL: u32 = 39;
-const CONTEXT: u32 = 94;
 
 /// Whether two strings, of one kind or of both, stand side by side.
 fn has_neighbours(kinds: &[u32]) -> bool {
@@ -14,6 +12,7 @@ fn has_neighbours(kinds: &[u32]) -> bool {
 #[test]
 fn in_literals_in_contexts_and_as_mixtures() {
     let grammar = Grammar::published();
+    let (literal, context) = (Grammar::rule("literal"), Grammar::rule("context_expr"));
     let (chart, cases) = (Chart::new(&grammar), Cases::new(&grammar));
     let mut random = Random::new(1);
     let (mut literals, mut contexts, mut mixtures) = (0, 0, 0);
@@ -29,11 +28,11 @@ fn in_literals_in_contexts_and_as_mixtures() {
             }
             Meaning::Blame(_) => {}
             Meaning::Records(records) => {
-                let span = |record: &[u32; 4]| &kinds[record[1] as usize..record[2] as usize];
+                let span = |record: &Record| &kinds[record[1] as usize..record[2] as usize];
                 let rows =
                     |rule| records.iter().filter(|record| record[0] == rule && has_neighbours(span(record))).count();
-                literals += rows(LITERAL);
-                contexts += rows(CONTEXT);
+                literals += rows(literal);
+                contexts += rows(context);
             }
         }
     }

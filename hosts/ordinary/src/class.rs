@@ -39,7 +39,7 @@ const fn classes() -> [Class; 256] {
 
 const fn class(byte: u8) -> Class {
     match byte {
-        9..=13 | b' ' => Class::Blank,
+        b'\t'..=b'\r' | b' ' => Class::Blank,
         b'A'..=b'Z' | b'a'..=b'z' => Class::Letter,
         b'_' => Class::Underscore,
         b'0'..=b'9' => Class::Digit,
@@ -72,7 +72,7 @@ const fn class(byte: u8) -> Class {
 
 /// Whether a byte is a character that a literal may hold: Latin-1 without its control characters.
 pub const fn is_graphic(byte: u8) -> bool {
-    matches!(byte, 32..=126 | 160..=255)
+    matches!(byte, b' '..=b'~' | 0xa0..=0xff)
 }
 
 /// Whether a byte stands for itself in a string.

@@ -17,9 +17,10 @@
 mod block;
 mod class;
 pub mod keyword;
-pub mod kind;
+mod kind;
 pub mod number;
 mod parse;
+mod rule;
 mod scan;
 
 use parse::{Parser, Stop};
@@ -28,6 +29,10 @@ use parse::{Parser, Stop};
 pub const TEXT_CEILING: usize = 1_048_576;
 /// The largest depth setting.
 pub const DEPTH_CEILING: u32 = 64;
+/// The numbers of a token record.
+pub const TOKEN_NUMBERS: usize = 3;
+/// The numbers of a tree record.
+pub const TREE_NUMBERS: usize = 4;
 
 /// A reply: its number, a place in bytes, a count of tokens and a count of tree records.
 #[derive(Clone, Copy, Debug, PartialEq, Eq)]
@@ -55,7 +60,7 @@ pub fn read(text: &[u8], tokens: &mut [u32], tree: &mut [u32], depth: u32) -> Re
     }
     let mut reply = scan_reply(text, tokens);
     if reply.number == number::ACCEPTED {
-        reply = parse_reply(&tokens[..3 * reply.tokens as usize], text.len(), tree, depth);
+        reply = parse_reply(&tokens[..TOKEN_NUMBERS * reply.tokens as usize], text.len(), tree, depth);
     }
     if reply.number != number::ACCEPTED {
         tokens.fill(0);
@@ -78,11 +83,11 @@ pub fn read_tokens(text: &[u8], tokens: &mut [u32]) -> Reply {
 
 /// Makes the tree alone, from the first `token_count` records of a token table.
 pub fn read_tree(tokens: &[u32], token_count: usize, text_length: usize, tree: &mut [u32], depth: u32) -> Reply {
-    let count_is_good = token_count <= tokens.len() / 3 && token_count <= text_length;
+    let count_is_good = token_count <= tokens.len() / TOKEN_NUMBERS && token_count <= text_length;
     if text_length > TEXT_CEILING || !depth_is_good(depth) || !count_is_good {
         return Reply::bad_call();
     }
-    let reply = parse_reply(&tokens[..3 * token_count], text_length, tree, depth);
+    let reply = parse_reply(&tokens[..TOKEN_NUMBERS * token_count], text_length, tree, depth);
     if reply.number != number::ACCEPTED {
         tree.fill(0);
     }
@@ -91,7 +96,7 @@ pub fn read_tree(tokens: &[u32], token_count: usize, text_length: usize, tree: &
 
 /// The bytes of one token; none if the table has no such record or its span leaves the text.
 pub fn spelling<'a>(text: &'a [u8], tokens: &[u32], record: usize) -> &'a [u8] {
-    match tokens.chunks_exact(3).nth(record) {
+    match tokens.chunks_exact(TOKEN_NUMBERS).nth(record) {
         Some(&[_, first, length]) => text.get(first as usize..first as usize + length as usize).unwrap_or(&[]),
         _ => &[],
     }
@@ -105,19 +110,19 @@ fn depth_is_good(depth: u32) -> bool {
 fn scan_reply(text: &[u8], tokens: &mut [u32]) -> Reply {
     match scan::scan(text, tokens) {
         Err(fault) => Reply::new(fault.number, fault.place, 0, 0),
-        Ok(count) if count > tokens.len() / 3 => Reply::new(number::TOKEN_TABLE_FULL, text.len(), count, 0),
+        Ok(count) if count > tokens.len() / TOKEN_NUMBERS => Reply::new(number::TOKEN_TABLE_FULL, text.len(), count, 0),
         Ok(count) => Reply::new(number::ACCEPTED, text.len(), count, 0),
     }
 }
 
 /// The reply of the tree part on these token records, all of them; the table is left as it was filled.
 fn parse_reply(tokens: &[u32], text_length: usize, tree: &mut [u32], depth: u32) -> Reply {
-    let count = tokens.len() / 3;
-    let room = tree.len() / 4;
+    let count = tokens.len() / TOKEN_NUMBERS;
+    let room = tree.len() / TREE_NUMBERS;
     let mut parser = Parser::new(tokens, tree, depth);
     let parsed = parser.specification();
     let records = parser.records();
-    let place = tokens.get(3 * parser.at() + 1).map_or(text_length, |&start| start as usize);
+    let place = tokens.get(TOKEN_NUMBERS * parser.at() + 1).map_or(text_length, |&start| start as usize);
     match parsed {
         Err(Stop::Grammar) => Reply::new(number::GRAMMAR, place, count, 0),
         Err(Stop::TooDeep) => Reply::new(number::TOO_DEEP, place, count, 0),

@@ -5,6 +5,7 @@ use crate::class::{is_graphic, Class, CLASSES, IS_PLAIN};
 use crate::keyword::{self, Spelling};
 use crate::kind;
 use crate::number;
+use crate::TOKEN_NUMBERS;
 
 /// The first fault of a text: the number of its reply and the place it blames.
 #[derive(Clone, Copy, Debug, PartialEq, Eq)]
@@ -18,7 +19,7 @@ type Lexeme = Result<(u32, usize), Fault>;
 
 /// Writes the token records that have room and counts all tokens, or finds the first fault.
 pub fn scan(text: &[u8], tokens: &mut [u32]) -> Result<usize, Fault> {
-    let mut records = tokens.chunks_exact_mut(3);
+    let mut records = tokens.chunks_exact_mut(TOKEN_NUMBERS);
     let mut count = 0;
     let mut at = 0;
     loop {
@@ -37,7 +38,7 @@ pub fn scan(text: &[u8], tokens: &mut [u32]) -> Result<usize, Fault> {
             Class::Pair(once, _) => (u32::from(once), at + 1),
             Class::Slash => match text.get(at + 1) {
                 Some(b'/') => {
-                    at = skip(text, at + 2, |byte| byte != 10 && byte != 13);
+                    at = skip(text, at + 2, |byte| byte != b'\n' && byte != b'\r');
                     continue;
                 }
                 Some(b'*') => {
@@ -183,7 +184,7 @@ fn quoted(text: &[u8], start: usize, open: usize) -> Lexeme {
             at = skip(text, at, |byte| IS_PLAIN[byte as usize]);
         }
         let byte = match text.get(at) {
-            None | Some(10 | 13) => return Err(open_at_end(start)),
+            None | Some(b'\n' | b'\r') => return Err(open_at_end(start)),
             Some(&byte) => byte,
         };
         if byte == quote {
@@ -222,7 +223,7 @@ fn character(text: &[u8], at: usize, byte: u8, wide: bool) -> Result<Character, 
 /// The escape whose backslash stands before `at`.
 fn escape(text: &[u8], at: usize, wide: bool) -> Result<Character, u32> {
     match text.get(at) {
-        None | Some(10 | 13) => Err(number::OPEN),
+        None | Some(b'\n' | b'\r') => Err(number::OPEN),
         Some(b'n' | b't' | b'v' | b'b' | b'r' | b'f' | b'a' | b'\\' | b'?' | b'\'' | b'"') => {
             Ok(Character { end: at + 1, zero: false })
         }
@@ -245,7 +246,7 @@ fn numbered(text: &[u8], start: usize, limit: usize, radix: u32) -> Result<Chara
         end += 1;
     }
     if end == start {
-        let cut_short = matches!(text.get(end), None | Some(10 | 13));
+        let cut_short = matches!(text.get(end), None | Some(b'\n' | b'\r'));
         return Err(if cut_short { number::OPEN } else { number::BAD_LITERAL });
     }
     if radix == 8 && value > 0o377 {

@@ -8,31 +8,23 @@
 //!
 //! Every function here ends and none panics, whatever table, count or text it is given.
 //!
-//! The features say what the linked library has: its token part, its tree part, its whole reader.
-#![cfg_attr(
-    feature = "tree",
-    doc = r#"
-```
-let text = b"native A;";
-let mut tokens = [0; 3 * 9];
-let mut tree = [0; 4 * 18];
-let reply = idl::read(text, &mut tokens, &mut tree, 64);
-assert_eq!(reply, idl::Reply::Accepted { tokens: 3, records: 4 });
-
-for (level, record) in idl::outline(&tree, 4) {
-    println!("{level} {}", idl::rule_name(record.rule).unwrap_or("?"));
-}
-```
-"#
-)]
+//! ```
+//! let text = b"native A;";
+//! let mut tokens = [0; idl::TOKEN_NUMBERS * 9];
+//! let mut tree = [0; idl::TREE_NUMBERS * 18];
+//! let reply = idl::read(text, &mut tokens, &mut tree, idl::DEPTH_CEILING);
+//! assert_eq!(reply, idl::Reply::Accepted { tokens: 3, records: 4 });
+//!
+//! for (level, record) in idl::outline(&tree, 4) {
+//!     println!("{level} {}", idl::rule_name(record.rule).unwrap_or("?"));
+//! }
+//! ```
 
 pub mod raw;
 mod reply;
 mod table;
 
-#[cfg(feature = "tokens")]
-pub use raw::spelling;
-pub use raw::{DEPTH_CEILING, TEXT_CEILING, TOKEN_NUMBERS, TREE_NUMBERS};
+pub use raw::{spelling, DEPTH_CEILING, TEXT_CEILING, TOKEN_NUMBERS, TREE_NUMBERS};
 pub use reply::Reply;
 pub use table::{kind_name, outline, records, rule_name, tokens, Record, Token};
 
@@ -46,7 +38,6 @@ pub use table::{kind_name, outline, records, rule_name, tokens, Record, Token};
 /// assert_eq!(idl::read_tokens(b"a 08", &mut tokens), idl::Reply::BadLiteral { place: 2 });
 /// assert_eq!(tokens, [0; 6]);
 /// ```
-#[cfg(feature = "tokens")]
 pub fn read_tokens(text: &[u8], tokens: &mut [u32]) -> Reply {
     raw::read_tokens(text, tokens).into()
 }
@@ -62,7 +53,6 @@ pub fn read_tokens(text: &[u8], tokens: &mut [u32]) -> Reply {
 /// assert_eq!(tree[..4], [51, 1, 2, 1]);
 /// assert_eq!(idl::read_tree(&tokens, 2, 9, &mut tree, 64), idl::Reply::Grammar { place: 9, tokens: 2 });
 /// ```
-#[cfg(feature = "tree")]
 pub fn read_tree(tokens: &[u32], token_count: usize, text_length: usize, tree: &mut [u32], depth: u32) -> Reply {
     raw::read_tree(tokens, token_count, text_length, tree, depth).into()
 }
@@ -79,7 +69,6 @@ pub fn read_tree(tokens: &[u32], token_count: usize, text_length: usize, tree: &
 /// assert_eq!(reply, idl::Reply::TreeTableFull { tokens: 3, records: 4 });
 /// assert!(!reply.blames_text());
 /// ```
-#[cfg(feature = "tree")]
 pub fn read(text: &[u8], tokens: &mut [u32], tree: &mut [u32], depth: u32) -> Reply {
     raw::read(text, tokens, tree, depth).into()
 }

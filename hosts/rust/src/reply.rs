@@ -1,6 +1,6 @@
 //! What the reader says, by name.
 
-use crate::raw;
+use crate::raw::{self, number};
 use std::fmt;
 
 /// A reply. Places are in bytes from the start of the text.
@@ -58,16 +58,16 @@ impl From<raw::Reply> for Reply {
         let tokens = reply.tokens as usize;
         let records = reply.records as usize;
         match reply.number {
-            0 => Reply::Accepted { tokens, records },
-            1 => Reply::BadCall,
-            2 => Reply::NoLexeme { place },
-            3 => Reply::Open { place },
-            4 => Reply::BadLiteral { place },
-            5 => Reply::KeywordCase { place },
-            6 => Reply::TokenTableFull { tokens },
-            7 => Reply::Grammar { place, tokens },
-            8 => Reply::TooDeep { place, tokens },
-            9 => Reply::TreeTableFull { tokens, records },
+            number::ACCEPTED => Reply::Accepted { tokens, records },
+            number::BAD_CALL => Reply::BadCall,
+            number::NO_LEXEME => Reply::NoLexeme { place },
+            number::OPEN => Reply::Open { place },
+            number::BAD_LITERAL => Reply::BadLiteral { place },
+            number::KEYWORD_CASE => Reply::KeywordCase { place },
+            number::TOKEN_TABLE_FULL => Reply::TokenTableFull { tokens },
+            number::GRAMMAR => Reply::Grammar { place, tokens },
+            number::TOO_DEEP => Reply::TooDeep { place, tokens },
+            number::TREE_TABLE_FULL => Reply::TreeTableFull { tokens, records },
             _ => Reply::Unknown(reply),
         }
     }

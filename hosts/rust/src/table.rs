@@ -81,6 +81,7 @@ fn subtrees(mut records: &[Record]) -> impl Iterator<Item = (&Record, &[Record])
     })
 }
 
+/// The kinds from 1 on.
 const CLASSES: [&str; 8] = [
     "identifier",
     "integer literal",
@@ -100,14 +101,15 @@ const CLASSES: [&str; 8] = [
 /// assert_eq!(idl::kind_name(9), None);
 /// ```
 pub fn kind_name(kind: u32) -> Option<&'static str> {
-    let kind = kind as usize;
     match kind {
-        1..=8 => Some(CLASSES[kind - 1]),
-        16..=63 => KEYWORDS.split_whitespace().nth(kind - 16),
-        64..=87 => MARKS.split_whitespace().nth(kind - 64),
-        _ => None,
+        FIRST_MARK.. => MARKS.split_whitespace().nth((kind - FIRST_MARK) as usize),
+        FIRST_KEYWORD.. => KEYWORDS.split_whitespace().nth((kind - FIRST_KEYWORD) as usize),
+        _ => CLASSES.get((kind as usize).checked_sub(1)?).copied(),
     }
 }
+
+const FIRST_KEYWORD: u32 = 16;
+const FIRST_MARK: u32 = 64;
 
 const KEYWORDS: &str = "FALSE Object TRUE ValueBase abstract any attribute boolean case char const context custom
     default double enum exception factory fixed float in inout interface local long module native octet oneway out

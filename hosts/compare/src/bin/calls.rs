@@ -3,10 +3,10 @@
 
 use compare::{plain, plain_proved, Numbers};
 use generate::corpus::{CORPORA, SCANNER};
+use ordinary::{DEPTH_CEILING as DEPTH, TOKEN_NUMBERS, TREE_NUMBERS};
 
 const SIZE: usize = 100 << 10;
 const SEED: u64 = 1;
-const DEPTH: u32 = 64;
 
 /// What is counted. It is found by its name, so it is never inlined.
 #[no_mangle]
@@ -25,7 +25,8 @@ fn count(text: &str, part: &str, mut theirs: impl FnMut() -> Numbers, mut ours: 
 fn count_parts(name: &str, text: &[u8]) {
     let length = text.len();
     let count_of_tokens = ordinary::read_tokens(text, &mut []).tokens as usize;
-    let (mut tokens, mut tree) = (vec![0; 3 * count_of_tokens], vec![0; 8 * count_of_tokens]);
+    let mut tokens = vec![0; TOKEN_NUMBERS * count_of_tokens];
+    let mut tree = vec![0; 2 * TREE_NUMBERS * count_of_tokens];
     let (mut other_tokens, mut other_tree) = (tokens.clone(), tree.clone());
     count(
         name,

@@ -3,11 +3,12 @@
 //! Usage: compare SEED CASES
 
 use compare::{plain_proved, Outcome};
+use ordinary::number::*;
 use std::env;
 use std::process::ExitCode;
 
 /// Prints how many cases agree, or the first that does not; false also if one of these replies never came.
-fn report(part: &str, outcome: Outcome, replies: &[usize]) -> bool {
+fn report(part: &str, outcome: Outcome, replies: impl IntoIterator<Item = u32>) -> bool {
     let tally = match outcome {
         Ok(tally) => tally,
         Err(disagreement) => {
@@ -15,26 +16,24 @@ fn report(part: &str, outcome: Outcome, replies: &[usize]) -> bool {
             return false;
         }
     };
-    let counts: Vec<String> = replies.iter().map(|&reply| format!("{reply}: {}", tally[reply])).collect();
-    println!("{part}: {} cases agree ({})", tally.iter().sum::<usize>(), counts.join(", "));
-    replies.iter().all(|&reply| tally[reply] > 0)
+    let counts: Vec<(u32, usize)> = replies.into_iter().map(|reply| (reply, tally[reply as usize])).collect();
+    let listed: Vec<String> = counts.iter().map(|(reply, count)| format!("{reply}: {count}")).collect();
+    println!("{part}: {} cases agree ({})", tally.iter().sum::<usize>(), listed.join(", "));
+    counts.iter().all(|&(_, count)| count > 0)
 }
 
 fn compare(seed: u64, count: usize) -> bool {
     let tokens = compare::token_part(seed, count, |text, tokens| plain_proved(idl::raw::read_tokens(text, tokens)));
-    let mut agreed = report("token part", tokens, &[0, 1, 2, 3, 4, 5, 6]);
-    agreed &= report("spellings", compare::spellings(seed, count, idl::spelling), &[0, 1]);
-    #[cfg(feature = "tree")]
-    {
-        let tree = compare::tree_part(seed, count, |tokens, token_count, text_length, tree, depth| {
-            plain_proved(idl::raw::read_tree(tokens, token_count, text_length, tree, depth))
-        });
-        agreed &= report("tree part", tree, &[0, 1, 7, 8, 9]);
-        let whole = compare::whole_reader(seed, count, |text, tokens, tree, depth| {
-            plain_proved(idl::raw::read(text, tokens, tree, depth))
-        });
-        agreed &= report("whole reader", whole, &[0, 1, 2, 3, 4, 5, 6, 7, 8, 9]);
-    }
+    let mut agreed = report("token part", tokens, ACCEPTED..=TOKEN_TABLE_FULL);
+    agreed &= report("spellings", compare::spellings(seed, count, idl::spelling), [ACCEPTED, BAD_CALL]);
+    let tree = compare::tree_part(seed, count, |tokens, token_count, text_length, tree, depth| {
+        plain_proved(idl::raw::read_tree(tokens, token_count, text_length, tree, depth))
+    });
+    agreed &= report("tree part", tree, [ACCEPTED, BAD_CALL, GRAMMAR, TOO_DEEP, TREE_TABLE_FULL]);
+    let whole = compare::whole_reader(seed, count, |text, tokens, tree, depth| {
+        plain_proved(idl::raw::read(text, tokens, tree, depth))
+    });
+    agreed &= report("whole reader", whole, ACCEPTED..=TREE_TABLE_FULL);
     agreed
 }
 

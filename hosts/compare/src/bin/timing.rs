@@ -11,14 +11,13 @@ use generate::nest::{nested, WAYS};
 use generate::sentence::Sentences;
 use generate::text::{spell, Layout};
 use generate::{Grammar, Random};
-use ordinary::number;
+use ordinary::{number, DEPTH_CEILING as DEPTH, TOKEN_NUMBERS, TREE_NUMBERS};
 use std::time::{Duration, Instant};
 
 const SIZES: [(&str, usize); 3] = [("1 KB", 1 << 10), MIDDLE, ("1 MB", 1 << 20)];
 const MIDDLE: (&str, usize) = ("100 KB", 100 << 10);
 /// The bytes of a batch, about; a larger text is a batch of its own.
 const BATCH: usize = MIDDLE.1;
-const DEPTH: u32 = 64;
 
 /// The clock is read around as many batches as take so long.
 const LEAST_CLOCKED: Duration = Duration::from_micros(50);
@@ -36,14 +35,14 @@ struct Text {
 impl Text {
     fn new(bytes: Vec<u8>) -> Self {
         let count = ordinary::read_tokens(&bytes, &mut []).tokens as usize;
-        let mut tokens = vec![0; 3 * count];
+        let mut tokens = vec![0; TOKEN_NUMBERS * count];
         ordinary::read_tokens(&bytes, &mut tokens);
         Text { bytes, tokens }
     }
 
     /// The number of its tokens, or an ample one where they have a fault and are not counted.
     fn token_room(&self) -> usize {
-        match self.tokens.len() / 3 {
+        match self.tokens.len() / TOKEN_NUMBERS {
             0 => self.bytes.len() / 4,
             count => count,
         }
@@ -59,7 +58,7 @@ struct Tables {
 impl Tables {
     fn new(batch: &[Text]) -> Self {
         let room = batch.iter().map(Text::token_room).max().expect("a batch has a text");
-        Tables { tokens: vec![0; 3 * room], tree: vec![0; 8 * room] }
+        Tables { tokens: vec![0; TOKEN_NUMBERS * room], tree: vec![0; 2 * TREE_NUMBERS * room] }
     }
 }
 
@@ -77,10 +76,10 @@ const TOKENS: [Call; 2] = [
 ];
 const TREE: [Call; 2] = [
     |Text { bytes, tokens }, tables| {
-        plain(ordinary::read_tree(tokens, tokens.len() / 3, bytes.len(), &mut tables.tree, DEPTH))
+        plain(ordinary::read_tree(tokens, tokens.len() / TOKEN_NUMBERS, bytes.len(), &mut tables.tree, DEPTH))
     },
     |Text { bytes, tokens }, tables| {
-        plain_proved(idl::raw::read_tree(tokens, tokens.len() / 3, bytes.len(), &mut tables.tree, DEPTH))
+        plain_proved(idl::raw::read_tree(tokens, tokens.len() / TOKEN_NUMBERS, bytes.len(), &mut tables.tree, DEPTH))
     },
 ];
 
@@ -257,8 +256,9 @@ fn print_times(rows: &[Row]) {
 fn print_stack(grammar: &Grammar) {
     let mut deepest = [0; 2];
     for way in 0..WAYS {
-        let text = spell(&nested(way, 64, grammar), grammar, Layout::Tidy, &mut Random::new(1));
-        let (mut tokens, mut tree) = (vec![0; 3 * text.len()], vec![0; 8 * text.len()]);
+        let text = spell(&nested(way, DEPTH as usize, grammar), grammar, Layout::Tidy, &mut Random::new(1));
+        let mut tokens = vec![0; TOKEN_NUMBERS * text.len()];
+        let mut tree = vec![0; 2 * TREE_NUMBERS * text.len()];
         let mut replies = [0; 2];
         let theirs = compare::stack::of_call(&mut || {
             replies[0] = ordinary::read(&text, &mut tokens, &mut tree, DEPTH).number;
@@ -269,7 +269,10 @@ fn print_stack(grammar: &Grammar) {
         assert_eq!(replies[0], replies[1], "the readers agree");
         deepest = [deepest[0].max(theirs), deepest[1].max(ours)];
     }
-    println!("\nStack of the deepest call at depth 64: ordinary {} bytes, proved {} bytes.", deepest[0], deepest[1]);
+    println!(
+        "\nStack of the deepest call at depth {DEPTH}: ordinary {} bytes, proved {} bytes.",
+        deepest[0], deepest[1]
+    );
 }
 
 fn main() {

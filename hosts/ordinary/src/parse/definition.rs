@@ -2,6 +2,7 @@
 
 use super::{Node, Parsed, Parser, Stop};
 use crate::kind::*;
+use crate::rule;
 
 impl Parser<'_> {
     /// 1.
@@ -11,7 +12,7 @@ impl Parser<'_> {
         while !self.at_end() {
             self.definition()?;
         }
-        self.record(1, node);
+        self.record(rule::SPECIFICATION, node);
         Ok(())
     }
 
@@ -29,7 +30,7 @@ impl Parser<'_> {
             _ => self.type_declaration()?,
         }
         self.expect(SEMICOLON)?;
-        self.record(2, node);
+        self.record(rule::DEFINITION, node);
         Ok(())
     }
 
@@ -44,7 +45,7 @@ impl Parser<'_> {
             self.definition()?;
         }
         self.close(RIGHT_BRACE)?;
-        self.record(3, node);
+        self.record(rule::MODULE, node);
         Ok(())
     }
 
@@ -71,17 +72,17 @@ impl Parser<'_> {
             COLON => self.interface_inheritance()?,
             LEFT_BRACE => {}
             _ => {
-                self.record(6, node);
+                self.record(rule::FORWARD_DCL, node);
                 return Ok(());
             }
         }
-        self.record(7, node);
+        self.record(rule::INTERFACE_HEADER, node);
         self.open(LEFT_BRACE)?;
         let body = self.begin();
         self.exports()?;
-        self.record(8, body);
+        self.record(rule::INTERFACE_BODY, body);
         self.close(RIGHT_BRACE)?;
-        self.record(5, node);
+        self.record(rule::INTERFACE_DCL, node);
         Ok(())
     }
 
@@ -90,7 +91,7 @@ impl Parser<'_> {
         let node = self.begin();
         self.expect(COLON)?;
         self.list(Self::scoped_name)?;
-        self.record(10, node);
+        self.record(rule::INTERFACE_INHERITANCE_SPEC, node);
         Ok(())
     }
 
@@ -112,7 +113,7 @@ impl Parser<'_> {
             _ => self.operation()?,
         }
         self.expect(SEMICOLON)?;
-        self.record(9, node);
+        self.record(rule::EXPORT, node);
         Ok(())
     }
 
@@ -121,10 +122,10 @@ impl Parser<'_> {
         let node = self.begin();
         self.accept(SCOPE);
         self.expect(IDENTIFIER)?;
-        self.record(12, node);
+        self.record(rule::SCOPED_NAME, node);
         while self.accept(SCOPE) {
             self.expect(IDENTIFIER)?;
-            self.record(12, node);
+            self.record(rule::SCOPED_NAME, node);
         }
         Ok(())
     }
@@ -136,7 +137,7 @@ impl Parser<'_> {
         self.expect(ATTRIBUTE)?;
         self.parameter_type()?;
         self.list(Self::simple_declarator)?;
-        self.record(85, node);
+        self.record(rule::ATTR_DCL, node);
         Ok(())
     }
 
@@ -144,10 +145,10 @@ impl Parser<'_> {
     fn operation(&mut self) -> Parsed {
         let node = self.begin();
         if self.kind == ONEWAY {
-            self.leaf(88)?;
+            self.leaf(rule::OP_ATTRIBUTE)?;
         }
         match self.kind {
-            VOID => self.leaf(89)?,
+            VOID => self.leaf(rule::OP_TYPE_SPEC)?,
             _ => self.parameter_type()?,
         }
         self.expect(IDENTIFIER)?;
@@ -158,7 +159,7 @@ impl Parser<'_> {
         if self.kind == CONTEXT {
             self.context()?;
         }
-        self.record(87, node);
+        self.record(rule::OP_DCL, node);
         Ok(())
     }
 
@@ -170,7 +171,7 @@ impl Parser<'_> {
             self.list(Self::parameter)?;
         }
         self.close(RIGHT_PARENTHESIS)?;
-        self.record(90, node);
+        self.record(rule::PARAMETER_DCLS, node);
         Ok(())
     }
 
@@ -178,12 +179,12 @@ impl Parser<'_> {
     fn parameter(&mut self) -> Parsed {
         let node = self.begin();
         match self.kind {
-            IN | OUT | INOUT => self.leaf(92)?,
+            IN | OUT | INOUT => self.leaf(rule::PARAM_ATTRIBUTE)?,
             _ => return Err(Stop::Grammar),
         }
         self.parameter_type()?;
         self.simple_declarator()?;
-        self.record(91, node);
+        self.record(rule::PARAM_DCL, node);
         Ok(())
     }
 
@@ -194,7 +195,7 @@ impl Parser<'_> {
         self.open(LEFT_PARENTHESIS)?;
         self.list(Self::scoped_name)?;
         self.close(RIGHT_PARENTHESIS)?;
-        self.record(93, node);
+        self.record(rule::RAISES_EXPR, node);
         Ok(())
     }
 
@@ -205,7 +206,7 @@ impl Parser<'_> {
         self.open(LEFT_PARENTHESIS)?;
         self.list(|parser| parser.string_literal(STRING_LITERAL))?;
         self.close(RIGHT_PARENTHESIS)?;
-        self.record(94, node);
+        self.record(rule::CONTEXT_EXPR, node);
         Ok(())
     }
 }

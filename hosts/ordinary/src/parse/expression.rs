@@ -2,6 +2,7 @@
 
 use super::{Parsed, Parser, Stop};
 use crate::kind::*;
+use crate::rule;
 
 impl Parser<'_> {
     /// 27.
@@ -12,7 +13,7 @@ impl Parser<'_> {
         self.expect(IDENTIFIER)?;
         self.expect(EQUALS)?;
         self.expression()?;
-        self.record(27, node);
+        self.record(rule::CONST_DCL, node);
         Ok(())
     }
 
@@ -20,7 +21,7 @@ impl Parser<'_> {
     fn constant_type(&mut self) -> Parsed {
         match self.kind {
             STRING | WSTRING => self.string_type(),
-            FIXED => self.leaf(97),
+            FIXED => self.leaf(rule::FIXED_PT_CONST_TYPE),
             ANY | OBJECT | VALUE_BASE => Err(Stop::Grammar),
             _ => self.base_type_or_name(),
         }
@@ -28,16 +29,16 @@ impl Parser<'_> {
 
     /// 29 and 41.
     pub(super) fn expression(&mut self) -> Parsed {
-        self.binary(LOWEST_LEVEL)
+        self.binary(rule::OR_EXPR)
     }
 
-    /// 30 to 35: the operators of this level and above, each grouping to the left.
-    fn binary(&mut self, level: u32) -> Parsed {
+    /// 30 to 35: the operators of this rule and of those after it, which bind tighter, each grouping to the left.
+    fn binary(&mut self, loosest: u32) -> Parsed {
         let node = self.begin();
         self.unary()?;
         loop {
-            let operator = operator_level(self.kind);
-            if operator < level {
+            let operator = operator_rule(self.kind);
+            if operator < loosest {
                 return Ok(());
             }
             self.take();
@@ -52,9 +53,9 @@ impl Parser<'_> {
         if !matches!(self.kind, MINUS | PLUS | TILDE) {
             return self.primary();
         }
-        self.leaf(37)?;
+        self.leaf(rule::UNARY_OPERATOR)?;
         self.primary()?;
-        self.record(36, node);
+        self.record(rule::UNARY_EXPR, node);
         Ok(())
     }
 
@@ -63,36 +64,33 @@ impl Parser<'_> {
         let node = self.begin();
         match self.kind {
             IDENTIFIER | SCOPE => self.scoped_name(),
-            INTEGER | FLOATING | FIXED_POINT | CHARACTER | WIDE_CHARACTER => self.leaf(39),
+            INTEGER | FLOATING | FIXED_POINT | CHARACTER | WIDE_CHARACTER => self.leaf(rule::LITERAL),
             STRING_LITERAL | WIDE_STRING => {
                 self.string_literal(self.kind)?;
-                self.record(39, node);
+                self.record(rule::LITERAL, node);
                 Ok(())
             }
-            TRUE | FALSE => self.leaf(40),
+            TRUE | FALSE => self.leaf(rule::BOOLEAN_LITERAL),
             _ => {
                 self.open(LEFT_PARENTHESIS)?;
                 self.expression()?;
                 self.close(RIGHT_PARENTHESIS)?;
-                self.record(38, node);
+                self.record(rule::PRIMARY_EXPR, node);
                 Ok(())
             }
         }
     }
 }
 
-/// The rule of the loosest operator.
-const LOWEST_LEVEL: u32 = 30;
-
 /// The rule that a binary operator belongs to, or 0 for any other token.
-fn operator_level(kind: u32) -> u32 {
+fn operator_rule(kind: u32) -> u32 {
     match kind {
-        BAR => LOWEST_LEVEL,
-        CARET => 31,
-        AMPERSAND => 32,
-        SHIFT_RIGHT | SHIFT_LEFT => 33,
-        PLUS | MINUS => 34,
-        STAR | SLASH | PERCENT => 35,
+        BAR => rule::OR_EXPR,
+        CARET => rule::XOR_EXPR,
+        AMPERSAND => rule::AND_EXPR,
+        SHIFT_RIGHT | SHIFT_LEFT => rule::SHIFT_EXPR,
+        PLUS | MINUS => rule::ADD_EXPR,
+        STAR | SLASH | PERCENT => rule::MULT_EXPR,
         _ => 0,
     }
 }

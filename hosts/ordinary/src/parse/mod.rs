@@ -9,6 +9,7 @@ mod types;
 mod value;
 
 use crate::kind::COMMA;
+use crate::{TOKEN_NUMBERS, TREE_NUMBERS};
 
 /// Why a parser stopped before the current token.
 #[derive(Clone, Copy, Debug, PartialEq, Eq)]
@@ -59,12 +60,12 @@ impl<'a> Parser<'a> {
     }
 
     fn at_end(&self) -> bool {
-        3 * self.at() >= self.tokens.len()
+        TOKEN_NUMBERS * self.at() >= self.tokens.len()
     }
 
     fn take(&mut self) {
         self.at += 1;
-        self.kind = self.tokens.get(3 * self.at()).copied().unwrap_or(END);
+        self.kind = self.tokens.get(TOKEN_NUMBERS * self.at()).copied().unwrap_or(END);
     }
 
     fn expect(&mut self, kind: u32) -> Parsed {
@@ -107,8 +108,8 @@ impl<'a> Parser<'a> {
     }
 
     fn record(&mut self, rule: u32, node: Node) {
-        let start = 4 * self.records();
-        if let Some(room) = self.tree.get_mut(start..start + 4) {
+        let start = TREE_NUMBERS * self.records();
+        if let Some(room) = self.tree.get_mut(start..start + TREE_NUMBERS) {
             room.copy_from_slice(&[rule, node.first, self.at, self.records - node.before + 1]);
         }
         self.records += 1;

@@ -2,6 +2,7 @@
 
 use super::{Node, Parsed, Parser, Stop};
 use crate::kind::*;
+use crate::rule;
 
 /// Whether a struct or union may stand without its body.
 #[derive(Clone, Copy, PartialEq, Eq)]
@@ -27,7 +28,7 @@ impl Parser<'_> {
                 self.type_declarator()?;
             }
         }
-        self.record(42, node);
+        self.record(rule::TYPE_DCL, node);
         Ok(())
     }
 
@@ -36,7 +37,7 @@ impl Parser<'_> {
         let node = self.begin();
         self.type_spec()?;
         self.declarators()?;
-        self.record(43, node);
+        self.record(rule::TYPE_DECLARATOR, node);
         Ok(())
     }
 
@@ -74,16 +75,16 @@ impl Parser<'_> {
     pub(super) fn base_type_or_name(&mut self) -> Parsed {
         match self.kind {
             IDENTIFIER | SCOPE => self.scoped_name(),
-            FLOAT | DOUBLE => self.leaf(53),
+            FLOAT | DOUBLE => self.leaf(rule::FLOATING_PT_TYPE),
             LONG => self.long_type(true),
             SHORT | UNSIGNED => self.integer_type(),
-            CHAR => self.leaf(63),
-            WCHAR => self.leaf(64),
-            BOOLEAN => self.leaf(65),
-            OCTET => self.leaf(66),
-            ANY => self.leaf(67),
-            OBJECT => self.leaf(68),
-            VALUE_BASE => self.leaf(98),
+            CHAR => self.leaf(rule::CHAR_TYPE),
+            WCHAR => self.leaf(rule::WIDE_CHAR_TYPE),
+            BOOLEAN => self.leaf(rule::BOOLEAN_TYPE),
+            OCTET => self.leaf(rule::OCTET_TYPE),
+            ANY => self.leaf(rule::ANY_TYPE),
+            OBJECT => self.leaf(rule::OBJECT_TYPE),
+            VALUE_BASE => self.leaf(rule::VALUE_BASE_TYPE),
             _ => Err(Stop::Grammar),
         }
     }
@@ -91,7 +92,7 @@ impl Parser<'_> {
     /// 54 to 62.
     fn integer_type(&mut self) -> Parsed {
         match self.kind {
-            SHORT => self.leaf(56),
+            SHORT => self.leaf(rule::SIGNED_SHORT_INT),
             LONG => self.long_type(false),
             _ => self.unsigned_type(),
         }
@@ -102,11 +103,11 @@ impl Parser<'_> {
         let node = self.begin();
         self.expect(LONG)?;
         let rule = match self.kind {
-            LONG => 58,
-            DOUBLE if double_allowed => 53,
-            _ => 57,
+            LONG => rule::SIGNED_LONGLONG_INT,
+            DOUBLE if double_allowed => rule::FLOATING_PT_TYPE,
+            _ => rule::SIGNED_LONG_INT,
         };
-        if rule != 57 {
+        if rule != rule::SIGNED_LONG_INT {
             self.take();
         }
         self.record(rule, node);
@@ -118,11 +119,11 @@ impl Parser<'_> {
         let node = self.begin();
         self.expect(UNSIGNED)?;
         if self.accept(SHORT) {
-            self.record(60, node);
+            self.record(rule::UNSIGNED_SHORT_INT, node);
             return Ok(());
         }
         self.expect(LONG)?;
-        let rule = if self.accept(LONG) { 62 } else { 61 };
+        let rule = if self.accept(LONG) { rule::UNSIGNED_LONGLONG_INT } else { rule::UNSIGNED_LONG_INT };
         self.record(rule, node);
         Ok(())
     }
@@ -137,14 +138,14 @@ impl Parser<'_> {
             self.expression()?;
         }
         self.close(GREATER)?;
-        self.record(80, node);
+        self.record(rule::SEQUENCE_TYPE, node);
         Ok(())
     }
 
     /// 81 and 82.
     pub(super) fn string_type(&mut self) -> Parsed {
         let node = self.begin();
-        let rule = if self.kind == STRING { 81 } else { 82 };
+        let rule = if self.kind == STRING { rule::STRING_TYPE } else { rule::WIDE_STRING_TYPE };
         self.take();
         if self.kind == LESS {
             self.open(LESS)?;
@@ -164,7 +165,7 @@ impl Parser<'_> {
         self.expect(COMMA)?;
         self.expression()?;
         self.close(GREATER)?;
-        self.record(96, node);
+        self.record(rule::FIXED_PT_TYPE, node);
         Ok(())
     }
 
@@ -172,7 +173,7 @@ impl Parser<'_> {
     pub(super) fn declarators(&mut self) -> Parsed {
         let node = self.begin();
         if self.list(Self::declarator)? > 1 {
-            self.record(49, node);
+            self.record(rule::DECLARATORS, node);
         }
         Ok(())
     }
@@ -185,7 +186,7 @@ impl Parser<'_> {
         if self.kind == LEFT_BRACKET {
             return self.array_sizes(node);
         }
-        self.record(51, node);
+        self.record(rule::SIMPLE_DECLARATOR, node);
         Ok(())
     }
 
@@ -197,15 +198,15 @@ impl Parser<'_> {
             self.open(LEFT_BRACKET)?;
             self.expression()?;
             self.close(RIGHT_BRACKET)?;
-            self.record(84, size);
+            self.record(rule::FIXED_ARRAY_SIZE, size);
         }
-        self.record(83, node);
+        self.record(rule::ARRAY_DECLARATOR, node);
         Ok(())
     }
 
     /// 51.
     pub(super) fn simple_declarator(&mut self) -> Parsed {
-        self.identifier(51)
+        self.identifier(rule::SIMPLE_DECLARATOR)
     }
 
     /// A rule whose right side is an identifier.
@@ -222,7 +223,7 @@ impl Parser<'_> {
         self.expect(STRUCT)?;
         self.expect(IDENTIFIER)?;
         if forward == Forward::Allowed && self.kind != LEFT_BRACE {
-            self.record(99, node);
+            self.record(rule::CONSTR_FORWARD_DECL, node);
             return Ok(());
         }
         self.open(LEFT_BRACE)?;
@@ -230,10 +231,10 @@ impl Parser<'_> {
         self.member()?;
         if self.kind != RIGHT_BRACE {
             self.members()?;
-            self.record(70, members);
+            self.record(rule::MEMBER_LIST, members);
         }
         self.close(RIGHT_BRACE)?;
-        self.record(69, node);
+        self.record(rule::STRUCT_TYPE, node);
         Ok(())
     }
 
@@ -250,7 +251,7 @@ impl Parser<'_> {
         self.type_spec()?;
         self.declarators()?;
         self.expect(SEMICOLON)?;
-        self.record(71, node);
+        self.record(rule::MEMBER, node);
         Ok(())
     }
 
@@ -260,7 +261,7 @@ impl Parser<'_> {
         self.expect(UNION)?;
         self.expect(IDENTIFIER)?;
         if forward == Forward::Allowed && self.kind != SWITCH {
-            self.record(99, node);
+            self.record(rule::CONSTR_FORWARD_DECL, node);
             return Ok(());
         }
         self.expect(SWITCH)?;
@@ -270,15 +271,15 @@ impl Parser<'_> {
         self.open(LEFT_BRACE)?;
         self.switch_body()?;
         self.close(RIGHT_BRACE)?;
-        self.record(72, node);
+        self.record(rule::UNION_TYPE, node);
         Ok(())
     }
 
     /// 73.
     fn switch_type(&mut self) -> Parsed {
         match self.kind {
-            CHAR => self.leaf(63),
-            BOOLEAN => self.leaf(65),
+            CHAR => self.leaf(rule::CHAR_TYPE),
+            BOOLEAN => self.leaf(rule::BOOLEAN_TYPE),
             ENUM => self.enumeration(),
             IDENTIFIER | SCOPE => self.scoped_name(),
             _ => self.integer_type(),
@@ -295,7 +296,7 @@ impl Parser<'_> {
         while self.kind != RIGHT_BRACE {
             self.case()?;
         }
-        self.record(74, node);
+        self.record(rule::SWITCH_BODY, node);
         Ok(())
     }
 
@@ -309,9 +310,9 @@ impl Parser<'_> {
         let element = self.begin();
         self.type_spec()?;
         self.declarator()?;
-        self.record(77, element);
+        self.record(rule::ELEMENT_SPEC, element);
         self.expect(SEMICOLON)?;
-        self.record(75, node);
+        self.record(rule::CASE, node);
         Ok(())
     }
 
@@ -323,7 +324,7 @@ impl Parser<'_> {
             self.expression()?;
         }
         self.expect(COLON)?;
-        self.record(76, node);
+        self.record(rule::CASE_LABEL, node);
         Ok(())
     }
 
@@ -333,9 +334,9 @@ impl Parser<'_> {
         self.expect(ENUM)?;
         self.expect(IDENTIFIER)?;
         self.open(LEFT_BRACE)?;
-        self.list(|parser| parser.identifier(79))?;
+        self.list(|parser| parser.identifier(rule::ENUMERATOR))?;
         self.close(RIGHT_BRACE)?;
-        self.record(78, node);
+        self.record(rule::ENUM_TYPE, node);
         Ok(())
     }
 
@@ -347,7 +348,7 @@ impl Parser<'_> {
         self.open(LEFT_BRACE)?;
         self.members()?;
         self.close(RIGHT_BRACE)?;
-        self.record(86, node);
+        self.record(rule::EXCEPT_DCL, node);
         Ok(())
     }
 }

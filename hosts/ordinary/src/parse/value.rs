@@ -2,6 +2,7 @@
 
 use super::{Node, Parsed, Parser, Stop};
 use crate::kind::*;
+use crate::rule;
 
 impl Parser<'_> {
     /// 14 and 16, from the word `valuetype` on.
@@ -12,14 +13,14 @@ impl Parser<'_> {
             COLON | SUPPORTS => self.value_inheritance()?,
             LEFT_BRACE => {}
             _ => {
-                self.record(14, node);
+                self.record(rule::VALUE_FORWARD_DCL, node);
                 return Ok(());
             }
         }
         self.open(LEFT_BRACE)?;
         self.exports()?;
         self.close(RIGHT_BRACE)?;
-        self.record(16, node);
+        self.record(rule::VALUE_ABS_DCL, node);
         Ok(())
     }
 
@@ -38,10 +39,10 @@ impl Parser<'_> {
         self.expect(IDENTIFIER)?;
         match self.kind {
             COLON | SUPPORTS | LEFT_BRACE => self.value_body(node)?,
-            SEMICOLON => self.record(14, node),
+            SEMICOLON => self.record(rule::VALUE_FORWARD_DCL, node),
             _ => {
                 self.type_spec()?;
-                self.record(15, node);
+                self.record(rule::VALUE_BOX_DCL, node);
             }
         }
         Ok(())
@@ -55,13 +56,13 @@ impl Parser<'_> {
         if self.kind != LEFT_BRACE {
             return Err(Stop::Grammar);
         }
-        self.record(18, node);
+        self.record(rule::VALUE_HEADER, node);
         self.open(LEFT_BRACE)?;
         while self.kind != RIGHT_BRACE {
             self.value_element()?;
         }
         self.close(RIGHT_BRACE)?;
-        self.record(17, node);
+        self.record(rule::VALUE_DCL, node);
         Ok(())
     }
 
@@ -75,7 +76,7 @@ impl Parser<'_> {
         if self.accept(SUPPORTS) {
             self.list(Self::scoped_name)?;
         }
-        self.record(19, node);
+        self.record(rule::VALUE_INHERITANCE_SPEC, node);
         Ok(())
     }
 
@@ -95,7 +96,7 @@ impl Parser<'_> {
         self.type_spec()?;
         self.declarators()?;
         self.expect(SEMICOLON)?;
-        self.record(22, node);
+        self.record(rule::STATE_MEMBER, node);
         Ok(())
     }
 
@@ -108,12 +109,12 @@ impl Parser<'_> {
         if self.kind != RIGHT_PARENTHESIS {
             let parameters = self.begin();
             if self.list(Self::factory_parameter)? > 1 {
-                self.record(24, parameters);
+                self.record(rule::INIT_PARAM_DECLS, parameters);
             }
         }
         self.close(RIGHT_PARENTHESIS)?;
         self.expect(SEMICOLON)?;
-        self.record(23, node);
+        self.record(rule::INIT_DCL, node);
         Ok(())
     }
 
@@ -121,12 +122,12 @@ impl Parser<'_> {
     fn factory_parameter(&mut self) -> Parsed {
         let node = self.begin();
         match self.kind {
-            IN => self.leaf(26)?,
+            IN => self.leaf(rule::INIT_PARAM_ATTRIBUTE)?,
             _ => return Err(Stop::Grammar),
         }
         self.parameter_type()?;
         self.simple_declarator()?;
-        self.record(25, node);
+        self.record(rule::INIT_PARAM_DECL, node);
         Ok(())
     }
 }

@@ -1,6 +1,5 @@
 //! Random tables, counts, texts and settings: every function ends, none panics, and each does what it says.
 
-#[cfg(feature = "tree")]
 mod calls;
 mod lent;
 mod outline;

@@ -2,6 +2,7 @@
 
 use crate::lent::{any_number, count, table};
 use generate::Random;
+use idl::raw::number::*;
 use idl::{raw, Reply, TOKEN_NUMBERS, TREE_NUMBERS};
 
 #[test]
@@ -30,10 +31,11 @@ fn replies() {
         let place = any_number(&mut random);
         let plain = raw::Reply { number, place, tokens: any_number(&mut random), records: any_number(&mut random) };
         let reply = Reply::from(plain);
-        assert_eq!(reply.is_accepted(), number == 0);
-        assert_eq!(reply.blames_text(), matches!(number, 2..=5 | 7));
-        assert_eq!(reply.place(), matches!(number, 2..=5 | 7 | 8).then_some(place as usize));
-        assert_eq!(reply == Reply::Unknown(plain), number > 9);
+        assert_eq!(reply.is_accepted(), number == ACCEPTED);
+        let blames_text = matches!(number, NO_LEXEME..=KEYWORD_CASE | GRAMMAR);
+        assert_eq!(reply.blames_text(), blames_text);
+        assert_eq!(reply.place(), (blames_text || number == TOO_DEEP).then_some(place as usize));
+        assert_eq!(reply == Reply::Unknown(plain), number > TREE_TABLE_FULL);
         assert!(!reply.to_string().is_empty());
     }
 }

@@ -1,0 +1,13 @@
+//! Tests that run on both readers: whoever takes them in calls its reader `reader`.
+
+use crate::reader;
+
+mod chart;
+mod common;
+mod corpus;
+mod derivations;
+mod edges;
+mod lexemes;
+mod lexicon;
+mod samples;
+mod strings;
