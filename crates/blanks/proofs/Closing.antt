@@ -10,9 +10,10 @@ use native.Mathlib.Omega.{arith}
 use lib.Dec.{eqb}
 use lib.ListN.{length, getD, drop, length-drop}
 use lib.Seq.{drop-cons, drop-drop, getD-drop}
-use Rattle.text.specs.Bytes.{at, run}
+use Rattle.text.specs.Bytes.{end, at, run}
 use Rattle.text.specs.Blanks.{further, to-close}
-use Rattle.text.proofs.Runs.{at-inside, run-within}
+use Rattle.text.proofs.Rests.{Counted}
+use Rattle.text.proofs.Runs.{at-inside}
 use Rattle.text.specs.Classes.{starless}
 
 -- n bytes more, where there are any
@@ -100,7 +101,7 @@ module _ (bs : List ℕ) where
   unfolding to-close
   front n h =
       let next : at (drop (suc n) bs) 0 ≡ getD bs (n + 1) 0 =
-      getD-drop (suc n) bs 0 256 ∙ ap (at bs) (omega arith) ∙ sym (at-inside bs (n + 1) h) in
+      getD-drop (suc n) bs 0 end ∙ ap (at bs) (omega arith) ∙ sym (at-inside bs (n + 1) h) in
       ap to-close (drop-cons bs n 0 (omega arith)) ∙ rw (next, add-one n)
 
   module _ (n : ℕ) (h : n + 1 < length bs) (p : Passed bs n) where
@@ -115,16 +116,15 @@ module _ (bs : List ℕ) where
     passed-closed e = sym (ahead e)
 
   -- and so are the bytes before the next star
-  pub passed-run : {n : ℕ} → Passed bs n → Passed bs (n + run starless (drop n bs))
-  passed-run {n} p =
+  pub passed-run : {n size : ℕ} → Passed bs n → Counted starless bs n size → Passed bs (n + size)
+  passed-run {n} {size} p w =
       let rest = drop n bs in
-      let m = run starless rest in
-      let w = run-within starless rest in
+      let run-on : to-close rest ≡ beyond size (to-close (drop size rest)) = rw (w .is-run) (starless-run rest) in
       record {
-        within = omega (arith, p .within, length-drop n bs);
+        within = w .fits;
         so-far =
-            p .so-far ∙ ap (beyond n) (starless-run rest) ∙ beyond-beyond n m (to-close (drop m rest))
-            ∙ ap (λ (l : List ℕ). beyond (n + m) (to-close l)) (drop-drop m n bs);
+            p .so-far ∙ ap (beyond n) run-on ∙ beyond-beyond n size (to-close (drop size rest))
+            ∙ ap (λ (l : List ℕ). beyond (n + size) (to-close l)) (drop-drop size n bs);
       }
 
   pub passed-all : {n : ℕ} → length bs ≤ n + 1 → Passed bs n → 0 ≡ to-close bs

@@ -18,15 +18,15 @@ pub fn line_comment(bs: &[u8]) -> Lexeme
 fn to_close(bs: &[u8]) -> usize
     ensures { λ r. ⌜ r ≡ to-close (now (bs .entry)) ⌝ }
 {
-    let mut n = 0;
-    while n + 1 < bs.len() {
-        if bs[n] == b'*' {
-            if bs[n + 1] == b'/' {
-                return n + 2;
+    let mut passed = 0;
+    while passed + 1 < bs.len() {
+        if bs[passed] == b'*' {
+            if bs[passed + 1] == b'/' {
+                return passed + 2;
             }
         }
-        n += 1;
-        n += text::starless_run(&bs[n..]);
+        passed += 1;
+        passed += text::starless_run(&bs[passed..]);
     }
     0
 }
@@ -36,10 +36,10 @@ pub fn block_comment(bs: &[u8]) -> Lexeme
     requires { ⌜ 2 ≤ length (now bs) ⌝ }
     ensures { λ r. ⌜ r ≡ block-comment (now (bs .entry)) ⌝ }
 {
-    let n = to_close(&bs[2..]);
-    if n == 0 {
+    let size = to_close(&bs[2..]);
+    if size == 0 {
         Lexeme::Open
     } else {
-        Lexeme::Blank(2 + n)
+        Lexeme::Blank(2 + size)
     }
 }

@@ -3,7 +3,7 @@
 use lib.Dec.{T}
 use Rattle.components.proofs.Facts.{components-facts}
 use Rattle.components.specs.Components.{components}
-use Rattle.prediction.specs.Check.{passes, Checked}
+use Rattle.prediction.specs.validator.Check.{passes, Checked}
 use Rattle.components.specs.Plans.{components-prediction}
 
 pub components-passes : T (passes components components-prediction)

@@ -25,7 +25,7 @@ rules-numbered = refl
 
 -- the 48 keywords, and "17 more keywords"
 pub each-kind-used : T (terminals-are component-kind-of (keywords ++ component-keywords) components)
-unfolding terminals-are component-kind-of keywords component-keywords components
+unfolding terminals-are component-kind-of component-keywords components
 each-kind-used = tt
 
 -- the bodies of an interface and of a component may be empty, and nothing else

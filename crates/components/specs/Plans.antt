@@ -5,11 +5,11 @@ use mathlib.Core.List.{List, [], _∷_, _++_}
 use Rattle.kinds.specs.Kinds.{component-kind-of}
 use Rattle.components.specs.Components.{published, components}
 use Rattle.grammar.specs.Notation.{_+, names}
-use Rattle.prediction.specs.Check.{Prediction}
-use Rattle.prediction.specs.Planning.{predict}
-use Rattle.prediction.specs.PlanNotation.{`_, <_>, _▸_, _∣_, ⟦_⟧, _*, Drawn, make, Draft, draft, sketch-each}
-use Rattle.prediction.specs.IdlPlans.{interface-rest, abstract-body, body, abstract-value-rest, custom-value-rest}
-use Rattle.prediction.specs.IdlPlans.{value-rest, interface-rules, value-rules, common, kept}
+use Rattle.prediction.specs.plans.Prediction.{Prediction}
+use Rattle.prediction.specs.plans.Planning.{predict}
+use Rattle.prediction.specs.plans.PlanNotation.{`_, <_>, _▸_, _∣_, ⟦_⟧, _*, Drawn, make, Draft, draft, sketch-each}
+use Rattle.prediction.specs.plans.IdlPlans.{interface-rest, abstract-body, body, abstract-value-rest, custom-value-rest}
+use Rattle.prediction.specs.plans.IdlPlans.{value-rest, interface-rules, value-rules, common, kept}
 
 -- behind "abstract" "eventtype": an abstract event, or a forward one
 abbrev pub abstract-event-rest : Drawn

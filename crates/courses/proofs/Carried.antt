@@ -8,14 +8,18 @@ use lib.Dec.{T, eqb, eqb→eq}
 use Rattle.grammar.specs.Idl.{idl}
 use Rattle.grammar.specs.Sets.{elem}
 use Rattle.grammar.proofs.Sets.{and-left, and-right}
-use Rattle.prediction.specs.Plan.{Plan, call}
-use Rattle.prediction.specs.Renaming.{renamed, inside, inside-holds, as-it-is, renamed-same}
-use Rattle.prediction.specs.Sets.{each, each-at}
-use Rattle.prediction.specs.Shared.{agrees, plan-same, plan-inside}
-use Rattle.prediction.specs.Columns.{round}
-use Rattle.prediction.specs.Check.{table, plans-of}
+use Rattle.prediction.specs.plans.Plan.{Plan, call}
+use Rattle.prediction.specs.sharing.Renaming.{renamed, inside, as-it-is}
+use Rattle.prediction.proofs.sharing.Renaming.{inside-holds, renamed-same}
+use Rattle.prediction.specs.Sets.{each}
+use Rattle.prediction.proofs.Sets.{each-at}
+use Rattle.prediction.specs.sharing.Shared.{agrees}
+use Rattle.prediction.proofs.sharing.Shared.{plan-same, plan-inside}
+use Rattle.prediction.specs.validator.Fixpoint.{round}
+use Rattle.prediction.specs.validator.Check.{table, plans-of}
 use Rattle.components.specs.Components.{components}
 use Rattle.data_only.specs.DataOnly.{data-only}
+use Rattle.readers_core.specs.Notation.{<_>}
 use Rattle.readers_core.specs.Course.{Course, Shares, one}
 use Rattle.readers_core.specs.Reading.{State, From, Flat}
 use Rattle.readers_core.proofs.Sharing.{carried}
@@ -91,10 +95,10 @@ module _ {ks : List ℕ} {d start : ℕ} {hs : List ℕ} (p : Plan) {s s′ : St
   in-three u x = carried three-shares (inside-holds shared-3 p u) x
 
 -- so whatever reads rule 12 as `scoped_name` does reads rule 12 of edition 2 and rule 204 of edition 3
-pub scoped-names : {ks : List ℕ} {s s′ : State} → Flat one ks (call 12) s s′ →
-    Flat two ks (call 12) s s′ × Flat three ks (call 204) s s′
+pub scoped-names : {ks : List ℕ} {s s′ : State} → Flat one ks (< "scoped_name" >) s s′ →
+    Flat two ks (< "scoped_name" >) s s′ × Flat three ks (call 204) s s′
 unfolding inside renamed number-3 shared-2 shared-3
 scoped-names x = (
-  record { at-any = λ d. record { in-any = λ start hs. in-two (call 12) tt (x .at-any d .in-any start hs) } },
-  record { at-any = λ d. record { in-any = λ start hs. in-three (call 12) tt (x .at-any d .in-any start hs) } },
+  record { at-any = λ d. record { in-any = λ start hs. in-two (< "scoped_name" >) tt (x .at-any d .in-any start hs) } },
+  record { at-any = λ d. record { in-any = λ start hs. in-three (< "scoped_name" >) tt (x .at-any d .in-any start hs) } },
 )

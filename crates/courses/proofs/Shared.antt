@@ -3,10 +3,10 @@
 use mathlib.Core.Path.{_≡_, refl}
 use mathlib.Core.List.{[], _∷_, _++_}
 use lib.Dec.{T}
-use Rattle.prediction.specs.Renaming.{as-it-is}
+use Rattle.prediction.specs.sharing.Renaming.{as-it-is}
 use Rattle.prediction.specs.Sets.{row, each}
-use Rattle.prediction.specs.Shared.{agrees}
-use Rattle.prediction.specs.IdlPlans.{idl-prediction}
+use Rattle.prediction.specs.sharing.Shared.{agrees}
+use Rattle.prediction.specs.plans.IdlPlans.{idl-prediction}
 use Rattle.components.specs.Plans.{components-prediction}
 use Rattle.data_only.specs.Plans.{data-only-prediction}
 use Rattle.courses.specs.Shared.{shared-2, number-3, shared-3}

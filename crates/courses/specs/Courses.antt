@@ -4,7 +4,7 @@ use Prim.Native.Nat.{ℕ}
 use mathlib.Core.Bool.{cond}
 use mathlib.Core.List.{List, [], _∷_}
 use lib.Dec.{eqb}
-use Rattle.prediction.specs.Renaming.{as-it-is}
+use Rattle.prediction.specs.sharing.Renaming.{as-it-is}
 use Rattle.components.specs.Components.{components}
 use Rattle.components.proofs.Checked.{components-checked}
 use Rattle.data_only.specs.DataOnly.{data-only}

@@ -7,8 +7,8 @@ use lib.ListN.{getD}
 use Rattle.kinds.specs.Kinds.{bytes, same, search-from}
 use Rattle.grammar.specs.Idl.{published}
 use Rattle.grammar.specs.Notation.{names, place}
-use Rattle.prediction.specs.Renaming.{as-it-is}
-use Rattle.prediction.specs.Shared.{shared-with-idl}
+use Rattle.prediction.specs.sharing.Renaming.{as-it-is}
+use Rattle.prediction.specs.sharing.Shared.{shared-with-idl}
 use Rattle.components.specs.Plans.{components-prediction}
 use Rattle.data_only.specs.DataOnly as third
 use Rattle.data_only.specs.DataOnly.{skipped}
@@ -21,12 +21,11 @@ shared-2 = shared-with-idl as-it-is (components-prediction .plans)
 
 -- the name in edition 3 of a rule of edition 1: of those that are shared, const_exp and enum_type have another there
 unfoldable pub name-3 : String → String
-unfolding place
 name-3 w = getD (w ∷ "const_expr" ∷ "enum_dcl" ∷ []) (place w ("const_exp" ∷ "enum_type" ∷ [])) w
 
 -- the number in edition 3 of rule n of edition 1; 0 where no rule has its name
 unfoldable pub number-3 : ℕ → ℕ
-unfolding search-from same bytes names published third.published name-3
+unfolding names published third.published name-3
 number-3 n = search-from (suc skipped) same (bytes (name-3 (getD ("" ∷ names published) n ""))) (names third.published)
 
 unfoldable pub shared-3 : List ℕ

@@ -3,7 +3,7 @@
 use lib.Dec.{T}
 use Rattle.data_only.proofs.Facts.{data-only-facts}
 use Rattle.data_only.specs.DataOnly.{data-only}
-use Rattle.prediction.specs.Check.{passes, Checked}
+use Rattle.prediction.specs.validator.Check.{passes, Checked}
 use Rattle.data_only.specs.Plans.{data-only-prediction}
 
 pub data-only-passes : T (passes data-only data-only-prediction)

@@ -10,7 +10,7 @@ use Rattle.grammar.proofs.Nesting.{nests}
 use Rattle.data_only.specs.DataOnly.{published, rule-names, data-only}
 
 pub data-only-facts : Facts kind-of published rule-names data-only
-unfolding each-side spelled joined avoids-errors unused-rules nests kind-of rule-names published data-only
+unfolding each-side spelled joined avoids-errors unused-rules nests rule-names published data-only
 data-only-facts = record { spelled-right = tt; strings-joined = tt; errors-avoided = tt; each-rule-used = refl; rules-nest = tt }
 
 -- "Its rules have no numbers; count them from the top starting at 201"
@@ -20,7 +20,7 @@ rules-numbered = refl
 
 -- "Its keywords are its own alphabetic terminals"
 pub each-kind-used : T (terminals-are kind-of data-only-keywords data-only)
-unfolding terminals-are kind-of data-only-keywords data-only
+unfolding terminals-are data-only-keywords data-only
 each-kind-used = tt
 
 pub no-empty-rule : empty-rules data-only ≡ []

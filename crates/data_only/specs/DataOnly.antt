@@ -214,7 +214,7 @@ rule-names = replicate skipped "" ++ names published
 
 -- rule 201 is recorded always, and no other
 unfoldable pub data-only : Edition
-unfolding place places resolve-all rule-names published kind-of
+unfolding resolve-all rule-names published
 data-only = record {
   rules = nothing ∷ replicate skipped nothing ++ resolve-all kind-of rule-names published;
   start = place "specification" rule-names;

@@ -3,10 +3,10 @@
 use mathlib.Core.List.{List, [], _∷_}
 use Rattle.kinds.specs.Kinds.{kind-of}
 use Rattle.data_only.specs.DataOnly.{rule-names, data-only}
-use Rattle.prediction.specs.Check.{Prediction}
-use Rattle.prediction.specs.Planning.{predict}
-use Rattle.prediction.specs.PlanNotation.{`_, <_>, _▸_, _∣_, _*, Drawn, make, Draft, draft, sketch-each}
-use Rattle.prediction.specs.IdlPlans.{number-type, number-rules, union-body, sequence-plan, common}
+use Rattle.prediction.specs.plans.Prediction.{Prediction}
+use Rattle.prediction.specs.plans.Planning.{predict}
+use Rattle.prediction.specs.plans.PlanNotation.{`_, <_>, _▸_, _∣_, _*, Drawn, make, Draft, draft, sketch-each}
+use Rattle.prediction.specs.plans.IdlPlans.{number-type, number-rules, union-body, sequence-plan, common}
 
 -- (217), its choices in the order of rule 39, so that the two have one plan
 abbrev pub literal-plan : Drawn
@@ -58,5 +58,5 @@ drafts =
     common
 
 unfoldable pub data-only-prediction : Prediction
-unfolding predict sketch-each kind-of rule-names data-only
+unfolding predict sketch-each rule-names data-only
 data-only-prediction = predict (sketch-each kind-of rule-names drafts) data-only

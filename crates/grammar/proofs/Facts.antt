@@ -15,6 +15,7 @@ use Rattle.grammar.specs.Rule.{RightSide, terminal, nonterminal, sequenc
 use Rattle.grammar.specs.Rule.{right-side}
 use Rattle.grammar.specs.Notation.{Written, `_, <_>, _▸_, _∣_, ⟦_⟧, _*, _+, Rule, _::=_, token-names, names}
 use Rattle.grammar.specs.Notation.{place, places}
+use Rattle.grammar.specs.Names.{rule-names}
 use Rattle.grammar.specs.Idl.{published, idl}
 use Rattle.grammar.specs.Derivation.{kind-at}
 use Rattle.grammar.specs.Record.{tree-record, recorded, records}
@@ -24,7 +25,6 @@ use Rattle.grammar.proofs.Nesting.{nests}
 -- each name is that of a token or a rule, and each terminal has a kind
 module _ (kind : String → ℕ) (rules : List String) where
   unfoldable pub spelled : Written → Bool
-  unfolding place token-names
   spelled (` w) = ltb 0 (kind w)
   spelled (< w >) = ltb 0 (place w token-names) || ltb 0 (place w rules)
   spelled (a ▸ b) = spelled a && spelled b
@@ -49,7 +49,7 @@ is-name (a +) = false
 
 -- request A1: a string stands nowhere but as one or more of its kind
 unfoldable pub joined : Written → Bool
-unfolding place is-name
+unfolding is-name
 joined (` w) = true
 joined (< w >) = eqb 0 (place w ("string_literal" ∷ "wide_string_literal" ∷ []))
 joined (a ▸ b) = joined a && joined b
@@ -85,7 +85,7 @@ kinds-of kind (w ∷ ws) = kind w ∷ kinds-of kind ws
 
 -- the terminals are identifiers, the seven literals, these keywords and the 24 marks, and no others
 unfoldable pub terminals-are : (String → ℕ) → List String → Edition → Bool
-unfolding subset gathered kinds-in kinds-of places token-names marks
+unfolding subset gathered kinds-in kinds-of
 terminals-are kind ws E =
     let ks = places token-names token-names ++ kinds-of kind (ws ++ marks) in
     let used = gathered kinds-in (E .rules) in
@@ -136,7 +136,7 @@ recorded-always E = chosen (λ r. recorded E r 1) E
 module _ (rules : List String) (E : Edition) where
   -- the rule of the first name uses that of the second
   unfoldable pub uses : (a b : String) → Bool
-  unfolding elem place rules-in right-side
+  unfolding elem rules-in right-side
   uses a b = elem (place b rules) (rules-in (right-side E (place a rules)))
 
   -- "Errors other readers have made": shift and addition in one rank, or shift above addition; sequences taken as
@@ -160,8 +160,13 @@ pub record Facts (kind : String → ℕ) (published : List Rule) (rules : List S
   pub rules-nest : T (nests E)
 
 pub idl-facts : Facts kind-of published (names published) idl
-unfolding each-side spelled joined avoids-errors unused-rules nests kind-of names published idl
+unfolding each-side spelled joined avoids-errors unused-rules nests names published idl
 idl-facts = record { spelled-right = tt; strings-joined = tt; errors-avoided = tt; each-rule-used = refl; rules-nest = tt }
+
+-- the names that code and plans know the rules by are those of the published rules
+pub rules-by-name : names published ≡ rule-names
+unfolding names published
+rules-by-name = refl
 
 pub rules-numbered : numbered idl ≡ (1, 99)
 unfolding numbered idl
@@ -169,7 +174,7 @@ rules-numbered = refl
 
 -- "the 48 alphabetic terminals of 000"
 pub each-kind-used : T (terminals-are kind-of keywords idl)
-unfolding terminals-are kind-of keywords idl
+unfolding terminals-are idl
 each-kind-used = tt
 
 -- an interface body may be empty, and nothing else: neither a struct nor rule 19
@@ -184,7 +189,6 @@ always-recorded = refl
 
 -- the tree of a declaration with an empty body, alone in its text
 unfoldable pub empty-declared : (keyword header body whole either : ℕ) → Forest
-unfolding kind-of
 empty-declared keyword header body whole either =
     let head = leaf (leaf end keyword) 1 in
     let braced = leaf (node (leaf (node end header head) (kind-of "{")) body end) (kind-of "}") in

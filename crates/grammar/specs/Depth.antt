@@ -9,11 +9,11 @@ use Rattle.kinds.specs.Kinds.{kind-of}
 use Rattle.grammar.specs.Sets.{elem}
 
 unfoldable pub opening : ℕ → Bool
-unfolding elem kind-of
+unfolding elem
 opening k = elem k (kind-of "(" ∷ kind-of "{" ∷ kind-of "[" ∷ kind-of "<" ∷ [])
 
 unfoldable pub closing : ℕ → Bool
-unfolding elem kind-of
+unfolding elem
 closing k = elem k (kind-of ")" ∷ kind-of "}" ∷ kind-of "]" ∷ kind-of ">" ∷ [])
 
 -- the depth behind a token, from the depth n before it

@@ -297,5 +297,5 @@ published =
 
 -- rules 1 and 8 are recorded always
 unfoldable pub idl : Edition
-unfolding edition published kind-of
+unfolding edition published
 idl = edition kind-of "specification" ("specification" ∷ "interface_body" ∷ []) published

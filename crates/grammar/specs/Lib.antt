@@ -3,6 +3,7 @@ pub mod Forest
 pub mod Rule
 pub mod Notation
 pub mod Idl
+pub mod Names
 pub mod Derivation
 pub mod Record
 pub mod Depth

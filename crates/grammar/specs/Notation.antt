@@ -27,7 +27,7 @@ pub data Rule : Type 0 where
   _::=_ : String → Written → Rule
 
 -- "Identifiers and literals other than boolean count as tokens, not nonterminals": kinds 1 to 8, in this order
-unfoldable pub token-names : List String
+abbrev pub token-names : List String
 token-names =
     "identifier" ∷ "integer_literal" ∷ "floating_pt_literal" ∷ "fixed_pt_literal" ∷ "character_literal" ∷
     "wide_character_literal" ∷ "string_literal" ∷ "wide_string_literal" ∷ []
@@ -38,8 +38,7 @@ names [] = []
 names ((name ::= e) ∷ rules) = name ∷ names rules
 
 -- the place of a name, from 1; 0 where it is none of them
-unfoldable pub place : String → List String → ℕ
-unfolding bytes same search-from
+abbrev pub place : String → List String → ℕ
 place w ws = search-from 1 same (bytes w) ws
 
 -- a name is that of a token or that of a rule
@@ -50,7 +49,7 @@ named (suc k) r = terminal (suc k)
 -- the right side with its names resolved; kind gives the kind of a terminal
 module _ (kind : String → ℕ) (rules : List String) where
   unfoldable pub resolve : Written → RightSide
-  unfolding token-names place named
+  unfolding named
   resolve (` w) = terminal (kind w)
   resolve (< w >) = named (place w token-names) (place w rules)
   resolve (a ▸ b) = sequence (resolve a) (resolve b)
@@ -64,14 +63,13 @@ module _ (kind : String → ℕ) (rules : List String) where
   resolve-all [] = []
   resolve-all ((name ::= e) ∷ rs) = resolve e ∷ resolve-all rs
 
-unfoldable pub places : List String → List String → List ℕ
-unfolding place
+abbrev pub places : List String → List String → List ℕ
 places [] ws = []
 places (v ∷ vs) ws = place v ws ∷ places vs ws
 
 -- the edition of these rules, read by the rule `start`; those named in `always` are recorded always
 unfoldable pub edition : (kind : String → ℕ) (start : String) (always : List String) → List Rule → Edition
-unfolding names place places resolve-all
+unfolding names resolve-all
 edition kind start always rs =
     record {
       rules = nothing ∷ resolve-all kind (names rs) rs;

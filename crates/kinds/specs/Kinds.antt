@@ -1,14 +1,14 @@
 -- The kinds of token and their numbers: paper 01, "Kinds", and requests A6 and A13. Keywords and marks stand here by their spelling.
 -- Assumes nothing: these are definitions.
 use mathlib.Core.Bool.{Bool, true, false, _&&_, cond}
-use mathlib.Core.List.{List, [], _∷_}
+use mathlib.Core.List.{List, [], _∷_, _++_}
 use Prim.Native.Nat.{ℕ, suc}
 use Prim.Native.Char.{code}
 use Prim.Native.String.{String, [] as nil, _∷_ as cons}
 use lib.Dec.{eqb, ltb}
 
 -- the bytes of a spelling
-unfoldable pub bytes : String → List ℕ
+abbrev pub bytes : String → List ℕ
 bytes nil = []
 bytes (cons c s) = code c ∷ bytes s
 
@@ -38,7 +38,10 @@ abbrev pub wide-string : ℕ
 wide-string = 8
 
 -- keywords, kinds 16 to 63 in byte order of their spelling
-unfoldable pub keywords : List String
+abbrev pub first-keyword : ℕ
+first-keyword = 16
+
+abbrev pub keywords : List String
 keywords =
     "FALSE" ∷ "Object" ∷ "TRUE" ∷ "ValueBase" ∷ "abstract" ∷ "any" ∷ "attribute" ∷ "boolean" ∷ "case" ∷ "char" ∷
     "const" ∷ "context" ∷ "custom" ∷ "default" ∷ "double" ∷ "enum" ∷ "exception" ∷ "factory" ∷ "fixed" ∷ "float" ∷
@@ -47,40 +50,42 @@ keywords =
     "truncatable" ∷ "typedef" ∷ "union" ∷ "unsigned" ∷ "valuetype" ∷ "void" ∷ "wchar" ∷ "wstring" ∷ []
 
 -- marks, kinds 64 to 87 in the order of the paper
-unfoldable pub marks : List String
+abbrev pub first-mark : ℕ
+first-mark = 64
+
+abbrev pub marks : List String
 marks =
     ";" ∷ "{" ∷ "}" ∷ ":" ∷ "," ∷ "::" ∷ "=" ∷ "(" ∷ ")" ∷ "<" ∷ ">" ∷ "[" ∷ "]" ∷ "|" ∷ "^" ∷ "&" ∷ ">>" ∷ "<<" ∷ "+"
     ∷ "-" ∷ "*" ∷ "/" ∷ "%" ∷ "~" ∷ []
 
 -- two spellings are the same
-unfoldable pub same : List ℕ → List ℕ → Bool
+abbrev pub same : List ℕ → List ℕ → Bool
 same [] [] = true
 same [] (y ∷ ys) = false
 same (x ∷ xs) [] = false
 same (x ∷ xs) (y ∷ ys) = eqb x y && same xs ys
 
 -- the first of the spellings, numbered from k, that is like w in the sense of the test; 0 where none is
-unfoldable pub search-from : ℕ → (List ℕ → List ℕ → Bool) → List ℕ → List String → ℕ
-unfolding bytes
+abbrev pub search-from : ℕ → (List ℕ → List ℕ → Bool) → List ℕ → List String → ℕ
 search-from k like w [] = 0
 search-from k like w (v ∷ vs) = cond (like w (bytes v)) k (search-from (suc k) like w vs)
 
 -- the kind of the keyword spelled exactly w; 0 where w is none
 unfoldable pub keyword : List ℕ → ℕ
-unfolding same search-from keywords
-keyword w = search-from 16 same w keywords
+keyword w = search-from first-keyword same w keywords
 
 -- the kind of the mark spelled w; 0 where w is none
 unfoldable pub mark : List ℕ → ℕ
-unfolding same search-from marks
-mark w = search-from 64 same w marks
+mark w = search-from first-mark same w marks
 
--- the kind of a keyword or mark, by its spelling
-unfoldable pub kind-of : String → ℕ
-unfolding bytes keyword mark
-kind-of w = cond (ltb 0 (keyword (bytes w))) (keyword (bytes w)) (mark (bytes w))
+-- the kind of a keyword or mark, by its spelling: marks are numbered on behind the keywords
+abbrev pub kind-of : String → ℕ
+kind-of w = search-from first-keyword same (bytes w) (keywords ++ marks)
 
 -- the further keywords of the component edition, kinds 88 up in byte order of their spelling: request A6
+abbrev pub first-component-keyword : ℕ
+first-component-keyword = 88
+
 unfoldable pub component-keywords : List String
 component-keywords =
     "component" ∷ "consumes" ∷ "emits" ∷ "eventtype" ∷ "finder" ∷ "getraises" ∷ "home" ∷ "import" ∷ "manages" ∷
@@ -88,12 +93,12 @@ component-keywords =
 
 -- the kind of the further keyword spelled exactly w; 0 where w is none
 unfoldable pub component-keyword : List ℕ → ℕ
-unfolding same search-from component-keywords
-component-keyword w = search-from 88 same w component-keywords
+unfolding component-keywords
+component-keyword w = search-from first-component-keyword same w component-keywords
 
 -- the kind of a terminal of the component edition, by its spelling
 unfoldable pub component-kind-of : String → ℕ
-unfolding bytes component-keyword kind-of
+unfolding component-keyword
 component-kind-of w = cond (ltb 0 (kind-of w)) (kind-of w) (component-keyword (bytes w))
 
 -- the keywords of the data-only edition, which have the kinds of the first edition: request A13

@@ -1,1 +1,2 @@
-// The kinds of token, by spelling: definitions in specs/Kinds.antt, facts on them in proofs/Facts.antt.
+// The kinds of token: named in code here, defined by spelling in specs/Kinds.antt, with facts on them in proofs/Facts.antt.
+pub mod kind;

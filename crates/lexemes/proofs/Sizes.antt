@@ -9,7 +9,7 @@ use native.Mathlib.Omega.{arith}
 use borrow.Author.Tests.{eqb-true}
 use lib.Dec.{eqb}
 use lib.ListN.{length}
-use Rattle.text.specs.Bytes.{at, run, space, letter, digit}
+use Rattle.text.specs.Bytes.{end, at, run, space, letter, digit}
 use Rattle.text.specs.Lexemes.{lexeme, starts}
 use Rattle.text.specs.Literals.{quote}
 use Rattle.text.specs.declared.Lexeme.{Lexeme}
@@ -38,7 +38,7 @@ space-sized [] h e = absurd (omega arith)
 space-sized (b ∷ bs) h e = let l = run-within space (b ∷ bs) in (rw e (omega arith), l)
 
 -- a text that goes on with two bytes has two
-two-bytes : (x y : ℕ) (bs : List ℕ) → y < 256 → starts x y bs ≡ true → 2 ≤ length bs
+two-bytes : (x y : ℕ) (bs : List ℕ) → y < end → starts x y bs ≡ true → 2 ≤ length bs
 two-bytes x y bs h e =
     let f = eqb-true (at bs 1) y (right (eqb (at bs 0) x) (eqb (at bs 1) y) e) in
     byte-inside bs 1 (omega arith)

@@ -1,6 +1,6 @@
 -- The lexeme at the front by its first byte, and its second where that one leaves a choice.
 -- Each rewrites the definition's tests by what is known of the two bytes. Assumes nothing.
-use mathlib.Core.Bool.{Bool, true, false, false≢true}
+use mathlib.Core.Bool.{Bool, true, false, cond, or-false, false≢true}
 use mathlib.Core.List.{List}
 use mathlib.Core.Logic.{_⊎_, inl, inr, ⊎-elim}
 use mathlib.Core.Path.{_≡_, refl, ap, sym, _∙_}
@@ -11,7 +11,7 @@ use borrow.Author.Tests.{le-leb, lt-leb, leb-true, leb-false, ne-eqb}
 use lib.Dec.{leb}
 use Rattle.kinds.specs.Kinds as kinds
 use Rattle.text.specs.Blanks.{line-comment, block-comment}
-use Rattle.text.specs.Bytes.{at, run, space, letter, digit}
+use Rattle.text.specs.Bytes.{end, at, run, space, letter, digit}
 use Rattle.text.specs.Lexemes.{lexeme, mark}
 use Rattle.text.specs.Literals.{quote, literal, wide-literal}
 use Rattle.text.specs.Numbers.{number}
@@ -31,20 +31,20 @@ pub record Plain (b : ℕ) : Type 0 where
   pub no-point : b ≡ code "." → ⊥
 
 -- a letter is above white space, and is none of the bytes that decide
-letter-above : (b : ℕ) → letter b ≡ true → 32 < b
+letter-above : (b : ℕ) → letter b ≡ true → code " " < b
 unfolding letter
-letter-above b e = go (leb b 32) refl
+letter-above b e = go (leb b (code " ")) refl
   where
-    go : (x : Bool) → leb b 32 ≡ x → 32 < b
+    go : (x : Bool) → leb b (code " ") ≡ x → code " " < b
     go true l =
-        let h = leb-true b 32 l in
+        let h = leb-true b (code " ") l in
         let none : letter b ≡ false = simp (lt-leb (code "A") b (omega arith), lt-leb (code "a") b (omega arith)) in
         absurd (false≢true (sym none ∙ e))
-    go false l = leb-false b 32 l
+    go false l = leb-false b (code " ") l
 
-pub above-space : (b : ℕ) → 32 < b → space b ≡ false
+pub above-space : (b : ℕ) → code " " < b → space b ≡ false
 unfolding space
-above-space b h = simp (le-leb 9 b (omega arith), lt-leb b 13 (omega arith), ne-eqb b 32 (omega arith))
+above-space b h = simp (le-leb (code "\t") b (omega arith), lt-leb b (code "\r") (omega arith), ne-eqb b (code " ") (omega arith))
 
 pub letter-plain : {b : ℕ} → letter b ≡ true → (b ≡ wide → ⊥) → Plain b
 unfolding letter
@@ -76,7 +76,7 @@ module _ (bs : List ℕ) where
     unfolding lexeme space
     slash-block f = simp (e, f)
 
-    pub slash-mark : (at bs 1 ≡ slash → ⊥) → (at bs 1 ≡ code "*" → ⊥) → Token 85 1 ≡ lexeme bs
+    pub slash-mark : (at bs 1 ≡ slash → ⊥) → (at bs 1 ≡ code "*" → ⊥) → Token (kinds.kind-of "/") 1 ≡ lexeme bs
     unfolding lexeme space quote letter digit mark kinds.mark
     slash-mark f g = simp (e, ne-eqb (at bs 1) slash f, ne-eqb (at bs 1) (code "*") g)
 
@@ -108,28 +108,9 @@ module _ (bs : List ℕ) where
   point-number e = simp e
 
   module _ (p : Plain (at bs 0)) where
-    pub letter-word : letter (at bs 0) ≡ true → word bs ≡ lexeme bs
+    classed : lexeme bs ≡ cond (letter (at bs 0)) (word bs) (cond (digit (at bs 0)) (number bs) (mark bs))
     unfolding lexeme quote
-    letter-word e =
-        simp (p .no-space, ne-eqb _ _ (p .no-slash), ne-eqb _ _ (λ q. p .no-quote (inl q)), ne-eqb _ _ (λ q. p .no-quote (inr q)), ne-eqb _ _ (p .no-wide), e)
-
-    pub digit-number : letter (at bs 0) ≡ false → digit (at bs 0) ≡ true → number bs ≡ lexeme bs
-    unfolding lexeme quote
-    digit-number e f =
-        simp (
-          p .no-space,
-          ne-eqb _ _ (p .no-slash),
-          ne-eqb _ _ (λ q. p .no-quote (inl q)),
-          ne-eqb _ _ (λ q. p .no-quote (inr q)),
-          ne-eqb _ _ (p .no-wide),
-          ne-eqb _ _ (p .no-underscore),
-          e,
-          f,
-        )
-
-    other-mark : letter (at bs 0) ≡ false → digit (at bs 0) ≡ false → mark bs ≡ lexeme bs
-    unfolding lexeme quote
-    other-mark e f =
+    classed =
         simp (
           p .no-space,
           ne-eqb _ _ (p .no-slash),
@@ -138,11 +119,19 @@ module _ (bs : List ℕ) where
           ne-eqb _ _ (p .no-wide),
           ne-eqb _ _ (p .no-underscore),
           ne-eqb _ _ (p .no-point),
-          e,
-          f,
+          or-false,
         )
 
-    pub start-mark : at bs 0 < 256 → starts-mark (at bs 0) ≡ true → mark bs ≡ lexeme bs
+    pub letter-word : letter (at bs 0) ≡ true → word bs ≡ lexeme bs
+    letter-word e = rw (classed, e)
+
+    pub digit-number : letter (at bs 0) ≡ false → digit (at bs 0) ≡ true → number bs ≡ lexeme bs
+    digit-number e f = rw (classed, e, f)
+
+    other-mark : letter (at bs 0) ≡ false → digit (at bs 0) ≡ false → mark bs ≡ lexeme bs
+    other-mark e f = rw (classed, e, f)
+
+    pub start-mark : at bs 0 < end → starts-mark (at bs 0) ≡ true → mark bs ≡ lexeme bs
     unfolding kinds.mark letter digit
     start-mark h e = other-mark (no-other letter tt h e) (no-other digit tt h e)
 

@@ -11,6 +11,7 @@ ghost use Rattle.text.specs.Literals.{quote};
 ghost use Rattle.words.specs.Table.{table};
 use blanks::block_comment;
 use blanks::line_comment;
+use kinds::kind;
 use literals::literal;
 use literals::wide_literal;
 use marks::mark;
@@ -18,18 +19,21 @@ use marks::starts_mark;
 use numbers::number;
 use text::Class;
 use text::Lexeme;
+use words::TABLE_SIZE;
 use words::escaped_word;
 use words::word;
 
-// The kind of the mark that is one slash.
-const SLASH: u32 = 85;
+// Bytes as `byte_at` gives them.
+const SLASH: u32 = b'/' as u32;
 
-// A byte that opens a literal; 256, past the end of the text, opens none.
-fn is_quote(b: u32) -> bool
-    ensures { λ r. ⌜ r ≡ quote b ⌝ }
+const STAR: u32 = b'*' as u32;
+
+// A byte that opens a literal; the end of the text opens none.
+fn is_quote(byte: u32) -> bool
+    ensures { λ r. ⌜ r ≡ quote byte ⌝ }
 {
-    match b {
-        34 | 39 => true,
+    match byte {
+        text::DOUBLE_QUOTE | text::QUOTE => true,
         _ => false,
     }
 }
@@ -40,13 +44,13 @@ fn slash(bs: &[u8]) -> Lexeme
     ensures { λ r. ⌜ r ≡ lexemes.lexeme (now (bs .entry)) ⌝ }
 {
     let second = text::byte_at(bs, 1);
-    if second == 47 {
+    if second == SLASH {
         return line_comment(bs);
     }
-    if second == 42 {
+    if second == STAR {
         return block_comment(bs);
     }
-    Lexeme::Token(SLASH, 1)
+    Lexeme::Token(kind::SLASH, 1)
 }
 
 // A lexeme made anew: what a call has left in memory goes on in registers.
@@ -64,7 +68,7 @@ fn again(found: Lexeme) -> Lexeme
 }
 
 // From a letter on: a wide literal where a quote comes directly after an L, or a word.
-fn wide_or_word(words: &[u8; 932], bs: &[u8]) -> Lexeme
+fn wide_or_word(words: &[u8; TABLE_SIZE], bs: &[u8]) -> Lexeme
     requires { ⌜ (now words ≡ table) × (0 < length (now bs)) ⌝ }
     requires { ⌜ letter (at (now bs) 0) ≡ true ⌝ }
     ensures { λ r. ⌜ r ≡ lexemes.lexeme (now (bs .entry)) ⌝ }
@@ -93,7 +97,7 @@ fn underscore(bs: &[u8]) -> Lexeme
 
 // The lexeme at the front. Letters are asked for first: most lexemes are words. `words` is the table of keywords, which the
 // caller makes once.
-pub fn lexeme(words: &[u8; 932], bs: &[u8]) -> Lexeme
+pub fn lexeme(words: &[u8; TABLE_SIZE], bs: &[u8]) -> Lexeme
     requires { ⌜ (now words ≡ table) × (0 < length (now bs)) ⌝ }
     ensures { λ r. ⌜ r ≡ lexemes.lexeme (now (bs .entry)) ⌝ }
 {

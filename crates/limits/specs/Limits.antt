@@ -1,4 +1,4 @@
--- What a good call is: paper 01, "Text: at most 1,048,576 bytes. Depth setting: 1 to 64" and "A good call is one that reply 1 does not answer".
+-- What a good call is: paper 01, "A good call is one that reply 1 does not answer", and the ceilings that it names.
 -- Assumes nothing: these are definitions.
 use mathlib.Core.Bool.{Bool, _&&_, cond}
 use Prim.Native.Nat.{ℕ}

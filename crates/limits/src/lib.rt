@@ -14,7 +14,7 @@ pub enum Bounded {
 }
 
 impl Limits {
-    pub const TEXT: usize = 1048576;
+    pub const TEXT: usize = 1 << 20;
 
     pub const DEPTH: u32 = 64;
 

@@ -1,14 +1,14 @@
 -- A class of bytes at the single numbers that an arm of a `match` names, its keys, and on an interval apart from them.
 -- What a test computes at each key, or at each number of the interval that is no key, holds of every byte there. Assumes nothing.
 use mathlib.Core.Path.{_≡_, subst⁻¹}
-use mathlib.Core.Bool.{Bool, true, _&&_, _||_}
+use mathlib.Core.Bool.{Bool, true, _&&_}
 use mathlib.Core.List.{List, [], _∷_}
 use mathlib.Core.Logic.{inl, inr}
-use Prim.Native.Nat.{ℕ, _+_, _≤_, _<_}
+use Prim.Native.Nat.{ℕ, _≤_, _<_}
 use lib.Dec.{T}
 use types.Run.{OneOf, hit}
-use mir.Val.{hasKey}
-use Rattle.text.proofs.Ranges.{agree, agreed, every, every-at, and-left, and-right, or-else}
+use Rattle.text.proofs.Ranges as ranges
+use Rattle.text.proofs.Ranges.{agree, agreed, and-left, and-right, but-keys}
 
 -- the test passes at each key
 abbrev pub at-each : (ℕ → Bool) → List ℕ → Bool
@@ -20,11 +20,9 @@ module _ (class : ℕ → Bool) (value : Bool) where
   right k = agree value (class k)
 
   -- the class has one value on an interval but at the keys
-  pub apart : (keys : List ℕ) (lo n : ℕ) → T (every (λ k. hasKey keys k || right k) lo n) → (b : ℕ) → (OneOf keys b → ⊥) →
-      (lo ≤ b) × (b < lo + n) → value ≡ class b
-  apart keys lo n t b e h =
-      agreed value (class b)
-      (or-else (hasKey keys b) (right b) (every-at (λ k. hasKey keys k || right k) lo n t (h .0) (h .1)) (λ u. e (hit keys b u)))
+  pub apart : (keys : List ℕ) (lo hi : ℕ) → T (but-keys keys right lo hi) → (b : ℕ) → (OneOf keys b → ⊥) →
+      (lo ≤ b) × (b < hi) → value ≡ class b
+  apart keys lo hi t b e h = agreed value (class b) (ranges.apart keys right lo hi t h (λ u. e (hit keys b u)))
 
   here : (b k : ℕ) → T (right k) → b ≡ k → value ≡ class b
   here b k t e = subst⁻¹ (λ (x : ℕ). value ≡ class x) e (agreed value (class k) t)

@@ -1,7 +1,6 @@
 pub mod Keys
 pub mod AllZero
 pub mod Sizes
-pub mod Front
 pub mod Pieces
 pub mod Reach
 pub mod Ordinary

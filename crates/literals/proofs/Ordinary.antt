@@ -10,11 +10,11 @@ use native.Mathlib.Omega.{arith}
 use lib.Dec.{eqb}
 use lib.ListN.{drop}
 use lib.Seq.{getD-drop}
-use Rattle.text.specs.Bytes.{at, run}
+use Rattle.text.specs.Bytes.{end, at, run}
 use Rattle.text.specs.Literals.{plain, escape, no-character, piece}
 use Rattle.text.specs.declared.Piece.{Piece}
 use Rattle.text.specs.declared.Piece.the-variants.{Character, Close}
-use Rattle.text.proofs.Rests.{rest}
+use Rattle.text.proofs.Rests.{rest, Counted}
 use Rattle.text.specs.Classes.{ordinary}
 use Rattle.literals.proofs.Pieces.{Reading, reading-more}
 
@@ -47,12 +47,15 @@ module _ (wide : Bool) (start : ℕ) (bs : List ℕ) where
   -- one ordinary byte at place n
   step : {n : ℕ} → Reading wide start bs n → ordinary (at bs n) ≡ true → Reading wide start bs (n + 1)
   step {n} r h =
-      let front : at (drop n bs) 0 ≡ at bs n = getD-drop n bs 0 256 ∙ ap (at bs) (add-zero n) in
+      let front : at (drop n bs) 0 ≡ at bs n = getD-drop n bs 0 end ∙ ap (at bs) (add-zero n) in
       reading-more wide start bs r refl (ap (piece wide (code "\"")) (rest bs n) ∙ ordinary-piece wide (drop n bs) (ap ordinary front ∙ h))
 
-  pub reading-run : {n : ℕ} → Reading wide start bs n → (k : ℕ) → k ≤ run ordinary (drop n bs) → Reading wide start bs (n + k)
-  reading-run {n} r zero h = rw add-zero r
-  reading-run {n} r (suc k) h =
+  steps : {n : ℕ} → Reading wide start bs n → (k : ℕ) → k ≤ run ordinary (drop n bs) → Reading wide start bs (n + k)
+  steps {n} r zero h = rw add-zero r
+  steps {n} r (suc k) h =
       let e : n + k + 1 ≡ n + suc k = omega arith in
       subst (Reading wide start bs) e
-      (step (reading-run r k (omega arith)) (ap ordinary (sym (getD-drop n bs k 256)) ∙ run-at ordinary (drop n bs) k h))
+      (step (steps r k (omega arith)) (ap ordinary (sym (getD-drop n bs k end)) ∙ run-at ordinary (drop n bs) k h))
+
+  pub reading-run : {n size : ℕ} → Reading wide start bs n → Counted ordinary bs n size → Reading wide start bs (n + size)
+  reading-run {n} {size} r w = steps r size (omega (arith, w .is-run))

@@ -1,4 +1,4 @@
--- A literal goes on as the piece that the code reads at place n says, and a string takes a step of its definition with each piece.
+-- A literal goes on as the piece that the code reads at place n says; a string takes a step of its definition with each piece.
 -- The part that the code lends to its end is the rest from place n on; there are more steps left than bytes. Assumes nothing.
 use mathlib.Core.Path.{_≡_, refl, sym, ap, subst, _∙_}
 use mathlib.Core.Bool.{Bool}
@@ -7,21 +7,29 @@ use Prim.Native.Char.{code}
 use Prim.Native.Nat.{ℕ, zero, suc, _+_, _-_, _≤_, _<_}
 use native.Mathlib.Omega.{arith}
 use lib.ListN.{length, take, drop}
+use Rattle.text.specs.Bytes.{end}
 use Rattle.text.specs.Literals.{piece, character-kind, string-kind, after-character, closing, one-character, character}
 use Rattle.text.specs.Literals.{string-piece, string-in, string}
 use Rattle.text.specs.declared.Lexeme.the-variants.{Token}
 use Rattle.text.specs.declared.Piece.{Piece}
-use Rattle.text.specs.declared.Piece.the-variants.{Character}
+use Rattle.text.specs.declared.Piece.the-variants.{Character, Zero}
 use Rattle.text.proofs.Rests.{rest}
-use Rattle.literals.proofs.Sizes.{Stands, character-size, piece-left}
+use Rattle.literals.proofs.Sizes.{Stands, character-size, zero-size, piece-left}
 
-module _ (wide : Bool) (quote n : ℕ) (bs : List ℕ) {p q : Piece}
-    (read : p ≡ piece wide quote (take (length bs - n) (drop n bs))) (is : p ≡ q) where
-  next : q ≡ piece wide quote (drop n bs)
-  next = sym is ∙ read ∙ ap (piece wide quote) (rest bs n)
+module _ (wide : Bool) (quote n : ℕ) (bs : List ℕ) {p : Piece}
+    (read : p ≡ piece wide quote (take (length bs - n) (drop n bs))) where
+  next : {q : Piece} → p ≡ q → q ≡ piece wide quote (drop n bs)
+  next is = sym is ∙ read ∙ ap (piece wide quote) (rest bs n)
 
-  pub stands : quote < 256 → Stands (length bs - n) q
-  stands h = subst (Stands (length bs - n)) (sym next) (piece-left wide quote n bs h)
+  stands : {q : Piece} → quote < end → p ≡ q → Stands (length bs - n) q
+  stands h is = subst (Stands (length bs - n)) (sym (next is)) (piece-left wide quote n bs h)
+
+  -- a character takes bytes that stand in the text, and so does character zero
+  pub past-character : {m : ℕ} → quote < end → p ≡ Character m → (0 < m) × (n + m ≤ length bs)
+  past-character h is = let s = character-size (stands h is) in (s .0, omega arith)
+
+  pub past-zero : {m : ℕ} → quote < end → p ≡ Zero m → (0 < m) × (n + m ≤ length bs)
+  past-zero h is = let s = zero-size (stands h is) in (s .0, omega arith)
 
 module _ (wide : Bool) (n : ℕ) (bs : List ℕ) {p q : Piece}
     (read : p ≡ piece wide (code "'") (take (length bs - n) (drop n bs))) (is : p ≡ q) where
@@ -62,5 +70,5 @@ module _ (wide : Bool) (start : ℕ) (bs : List ℕ) where
       p ≡ piece wide (code "\"") (take (length bs - n) (drop n bs)) → p ≡ Character m → Reading wide start bs (n + m)
   unfolding string-piece
   reading-more {n} {m} r read is =
-      let s = character-size (stands wide (code "\"") n bs read is (omega arith)) in
-      on n m (r .more) (omega (arith, r .within)) (s .0) (r .enough) (sym (string-by r read is))
+      let s = past-character wide (code "\"") n bs read (omega arith) is in
+      on n m (r .more) (s .1) (s .0) (r .enough) (sym (string-by r read is))

@@ -1,5 +1,5 @@
 -- How many bytes a piece of a literal takes: a character one at least, and none past the end of the text.
--- By the cases of the definitions: each byte that is looked at and is not 256 stands in the text. Assumes nothing.
+-- By the cases of the definitions: each byte that is looked at and is not the end stands in the text. Assumes nothing.
 use mathlib.Core.Path.{subst}
 use mathlib.Core.Bool.{Bool, true, false, _||_, cond}
 use mathlib.Core.List.{List, [], _∷_}
@@ -9,7 +9,7 @@ use native.Mathlib.Omega.{arith}
 use borrow.Author.Tests.{ne-eqb}
 use lib.Dec.{eqb, ltb}
 use lib.ListN.{length, take, drop, length-take, length-drop}
-use Rattle.text.specs.Bytes.{at, octal, hexadecimal, line-end, ended}
+use Rattle.text.specs.Bytes.{end, at, octal, hexadecimal, line-end, ended}
 use Rattle.text.specs.Literals.{plain, simple, digits, zeros, numbered, above-377, no-character}
 use Rattle.text.specs.Literals.{octal-escape, hexadecimal-digits, hexadecimal-escape, escape, piece}
 use Rattle.text.proofs.Runs.{run-within}
@@ -65,9 +65,9 @@ escape-stands wide (b ∷ bs) =
     (either-stands n (octal b) (octal-stands (b ∷ bs))
     (either-stands n (ltb 0 most) (hexadecimal-stands most bs) (no-character-stands n b)))
 
-piece-stands : (wide : Bool) (quote : ℕ) (bs : List ℕ) → quote < 256 → Stands (length bs) (piece wide quote bs)
+piece-stands : (wide : Bool) (quote : ℕ) (bs : List ℕ) → quote < end → Stands (length bs) (piece wide quote bs)
 unfolding piece
-piece-stands wide quote [] h = rw (ne-eqb 256 quote (λ e. omega arith)) stands-unclosed
+piece-stands wide quote [] h = rw (ne-eqb end quote (λ e. omega arith)) stands-unclosed
 piece-stands wide quote (b ∷ bs) h =
     let n = suc (length bs) in
     either-stands n (eqb b quote) (stands-close (omega arith))
@@ -75,7 +75,7 @@ piece-stands wide quote (b ∷ bs) h =
     (either-stands n (plain b) (stands-character (omega arith) (omega arith)) (no-character-stands n b)))
 
 -- the piece at place n stands in what is left
-pub piece-left : (wide : Bool) (quote n : ℕ) (bs : List ℕ) → quote < 256 → Stands (length bs - n) (piece wide quote (drop n bs))
+pub piece-left : (wide : Bool) (quote n : ℕ) (bs : List ℕ) → quote < end → Stands (length bs - n) (piece wide quote (drop n bs))
 piece-left wide quote n bs h =
     subst (λ (k : ℕ). Stands k (piece wide quote (drop n bs))) (length-drop n bs) (piece-stands wide quote (drop n bs) h)
 

@@ -1,4 +1,5 @@
 // Character and string literals: paper 01, "Character, string". A literal is read from the rest of the text that starts with it.
+ghost use mathlib.Core.Bool.{cond};
 ghost use mathlib.Core.Path.{_≡_};
 ghost use Prim.Native.Nat.{_≤_};
 ghost use lib.ListN.{length};
@@ -6,27 +7,38 @@ ghost use Rattle.text.specs.Bytes.{at};
 ghost use Rattle.text.specs.Classes.{member};
 ghost use Rattle.text.specs.Literals.{simple, no-character, digits, zeros, numbered, above-377};
 ghost use Rattle.text.specs.Literals.{octal-escape, hexadecimal-escape, hexadecimal-digits, escape, piece};
-ghost use Rattle.text.specs.Literals.{character-kind, string-kind, closing, character, string, quoted, literal, wide-literal};
+ghost use Rattle.text.specs.Literals.{closing, character, string, quoted, literal, wide-literal};
+use kinds::kind;
 use text::Class;
 use text::Lexeme;
 use text::Piece;
 
 // A byte that makes an escape of two bytes with the backslash before it.
-fn is_simple(b: u8) -> bool
-    ensures { λ r. ⌜ r ≡ simple b ⌝ }
+fn is_simple(byte: u8) -> bool
+    ensures { λ r. ⌜ r ≡ simple byte ⌝ }
 {
-    match b {
+    match byte {
         b'n' | b't' | b'v' | b'b' | b'r' | b'f' | b'a' | b'\\' | b'?' | b'\'' | b'"' => true,
         _ => false,
     }
 }
+
+// Bytes as `byte_at` gives them.
+const LINE_FEED: u32 = b'\n' as u32;
+
+const CARRIAGE_RETURN: u32 = b'\r' as u32;
+
+const DIGIT_THREE: u32 = b'3' as u32;
+
+// The most octal digits of an escape.
+const OCTAL_DIGITS: usize = 3;
 
 // What stands where no character does.
 fn no_character(bs: &[u8]) -> Piece
     ensures { λ r. ⌜ r ≡ no-character (at (now (bs .entry)) 0) ⌝ }
 {
     match text::byte_at(bs, 0) {
-        10 | 13 | 256 => Piece::Unclosed,
+        LINE_FEED | CARRIAGE_RETURN | text::END => Piece::Unclosed,
         _ => Piece::Bad,
     }
 }
@@ -46,12 +58,12 @@ fn digits(class: Class, most: usize, bs: &[u8]) -> usize
 fn zeros(digits: &[u8]) -> bool
     ensures { λ r. ⌜ r ≡ zeros (now (digits .entry)) ⌝ }
 {
-    let mut n = 0;
-    while n < digits.len() {
-        if digits[n] != b'0' {
+    let mut place = 0;
+    while place < digits.len() {
+        if digits[place] != b'0' {
             return false;
         }
-        n += 1;
+        place += 1;
     }
     true
 }
@@ -61,20 +73,20 @@ fn numbered(before: usize, digits: &[u8]) -> Piece
     requires { ⌜ before ≤ 2 ⌝ }
     ensures { λ r. ⌜ r ≡ numbered before (now (digits .entry)) ⌝ }
 {
-    let n = before + digits.len();
+    let size = before + digits.len();
     if zeros(digits) {
-        Piece::Zero(n)
+        Piece::Zero(size)
     } else {
-        Piece::Character(n)
+        Piece::Character(size)
     }
 }
 
 // Three octal digits above \377.
-fn above_377(n: usize, bs: &[u8]) -> bool
-    ensures { λ r. ⌜ r ≡ above-377 n (now (bs .entry)) ⌝ }
+fn above_377(count: usize, bs: &[u8]) -> bool
+    ensures { λ r. ⌜ r ≡ above-377 count (now (bs .entry)) ⌝ }
 {
-    if n == 3 {
-        51 < text::byte_at(bs, 0)
+    if count == OCTAL_DIGITS {
+        DIGIT_THREE < text::byte_at(bs, 0)
     } else {
         false
     }
@@ -83,11 +95,11 @@ fn above_377(n: usize, bs: &[u8]) -> bool
 fn octal_escape(bs: &[u8]) -> Piece
     ensures { λ r. ⌜ r ≡ octal-escape (now (bs .entry)) ⌝ }
 {
-    let n = digits(Class::Octal, 3, bs);
-    if above_377(n, bs) {
+    let count = digits(Class::Octal, OCTAL_DIGITS, bs);
+    if above_377(count, bs) {
         Piece::Bad
     } else {
-        numbered(1, &bs[..n])
+        numbered(1, &bs[..count])
     }
 }
 
@@ -95,19 +107,19 @@ fn octal_escape(bs: &[u8]) -> Piece
 fn hexadecimal_escape(most: usize, bs: &[u8]) -> Piece
     ensures { λ r. ⌜ r ≡ hexadecimal-escape most (now (bs .entry)) ⌝ }
 {
-    let n = digits(Class::Hexadecimal, most, bs);
-    if n == 0 {
+    let count = digits(Class::Hexadecimal, most, bs);
+    if count == 0 {
         no_character(bs)
     } else {
-        numbered(2, &bs[..n])
+        numbered(2, &bs[..count])
     }
 }
 
 // How many hex digits the letter after a backslash takes at most.
-fn hexadecimal_digits(wide: bool, b: u8) -> usize
-    ensures { λ r. ⌜ r ≡ hexadecimal-digits wide b ⌝ }
+fn hexadecimal_digits(wide: bool, letter: u8) -> usize
+    ensures { λ r. ⌜ r ≡ hexadecimal-digits wide letter ⌝ }
 {
-    match b {
+    match letter {
         b'x' => 2,
         b'u' => if wide { 4 } else { 0 },
         _ => 0,
@@ -121,14 +133,14 @@ fn escape(wide: bool, bs: &[u8]) -> Piece
     if bs.len() == 0 {
         return Piece::Unclosed;
     }
-    let b = bs[0];
-    if is_simple(b) {
+    let first = bs[0];
+    if is_simple(first) {
         return Piece::Character(2);
     }
-    if text::is_octal(b) {
+    if text::is_octal(first) {
         return octal_escape(bs);
     }
-    let most = hexadecimal_digits(wide, b);
+    let most = hexadecimal_digits(wide, first);
     if 0 < most {
         hexadecimal_escape(most, &bs[1..])
     } else {
@@ -143,40 +155,38 @@ fn piece(wide: bool, quote: u8, bs: &[u8]) -> Piece
     if bs.len() == 0 {
         return Piece::Unclosed;
     }
-    let b = bs[0];
-    if b == quote {
+    let first = bs[0];
+    if first == quote {
         return Piece::Close;
     }
-    if b == b'\\' {
+    if first == b'\\' {
         return escape(wide, &bs[1..]);
     }
-    if text::is_plain(b) {
+    if text::is_plain(first) {
         Piece::Character(1)
     } else {
         no_character(bs)
     }
 }
 
-fn character_kind(wide: bool) -> u32
-    ensures { λ r. ⌜ r ≡ character-kind wide ⌝ }
+// The kind of a literal that may be wide.
+fn by_width(wide: bool, kind: u32, widened: u32) -> u32
+    ensures { λ r. ⌜ r ≡ cond wide widened kind ⌝ }
 {
-    if wide { 6 } else { 5 }
-}
-
-fn string_kind(wide: bool) -> u32
-    ensures { λ r. ⌜ r ≡ string-kind wide ⌝ }
-{
-    if wide { 8 } else { 7 }
+    if wide { widened } else { kind }
 }
 
 // The end of a character literal, after its one character.
-fn closing(wide: bool, n: usize, bs: &[u8]) -> Lexeme
-    requires { ⌜ n ≤ length (now bs) ⌝ }
-    ensures { λ r. ⌜ r ≡ closing wide n (now (bs .entry)) ⌝ }
+fn closing(wide: bool, read: usize, bs: &[u8]) -> Lexeme
+    requires { ⌜ read ≤ length (now bs) ⌝ }
+    ensures { λ r. ⌜ r ≡ closing wide read (now (bs .entry)) ⌝ }
 {
-    let next = piece(wide, b'\'', &bs[n..]);
+    let next = piece(wide, b'\'', &bs[read..]);
     match next {
-        Piece::Close => Lexeme::Token(character_kind(wide), n + 1),
+        Piece::Close => Lexeme::Token(
+            by_width(wide, kind::CHARACTER, kind::WIDE_CHARACTER),
+            read + 1,
+        ),
         Piece::Unclosed => Lexeme::Open,
         Piece::Character(_) => Lexeme::BadLiteral,
         Piece::Zero(_) => Lexeme::BadLiteral,
@@ -184,34 +194,37 @@ fn closing(wide: bool, n: usize, bs: &[u8]) -> Lexeme
     }
 }
 
-// A character literal whose first n bytes, to its opening quote, are read.
-fn character(wide: bool, n: usize, bs: &[u8]) -> Lexeme
-    requires { ⌜ n ≤ length (now bs) ⌝ }
-    ensures { λ r. ⌜ r ≡ character wide n (now (bs .entry)) ⌝ }
+// A character literal whose first bytes, to its opening quote, are read.
+fn character(wide: bool, read: usize, bs: &[u8]) -> Lexeme
+    requires { ⌜ read ≤ length (now bs) ⌝ }
+    ensures { λ r. ⌜ r ≡ character wide read (now (bs .entry)) ⌝ }
 {
-    let next = piece(wide, b'\'', &bs[n..]);
+    let next = piece(wide, b'\'', &bs[read..]);
     match next {
         Piece::Close => Lexeme::BadLiteral,
         Piece::Unclosed => Lexeme::Open,
-        Piece::Character(m) => closing(wide, n + m, bs),
-        Piece::Zero(m) => closing(wide, n + m, bs),
+        Piece::Character(taken) => closing(wide, read + taken, bs),
+        Piece::Zero(taken) => closing(wide, read + taken, bs),
         Piece::Bad => Lexeme::BadLiteral,
     }
 }
 
-// A string whose first n bytes, to its opening quote, are read.
-fn string(wide: bool, n: usize, bs: &[u8]) -> Lexeme
-    requires { ⌜ n ≤ length (now bs) ⌝ }
-    ensures { λ r. ⌜ r ≡ string wide n (now (bs .entry)) ⌝ }
+// A string whose first bytes, to its opening quote, are read.
+fn string(wide: bool, read: usize, bs: &[u8]) -> Lexeme
+    requires { ⌜ read ≤ length (now bs) ⌝ }
+    ensures { λ r. ⌜ r ≡ string wide read (now (bs .entry)) ⌝ }
 {
-    let mut i = n;
+    let mut place = read;
     loop {
-        i += text::string_run(&bs[i..]);
-        let next = piece(wide, b'"', &bs[i..]);
+        place += text::string_run(&bs[place..]);
+        let next = piece(wide, b'"', &bs[place..]);
         match next {
-            Piece::Close => return Lexeme::Token(string_kind(wide), i + 1),
+            Piece::Close => return Lexeme::Token(
+                by_width(wide, kind::STRING_LITERAL, kind::WIDE_STRING_LITERAL),
+                place + 1,
+            ),
             Piece::Unclosed => return Lexeme::Open,
-            Piece::Character(m) => i += m,
+            Piece::Character(taken) => place += taken,
             Piece::Zero(_) => return Lexeme::BadLiteral,
             Piece::Bad => return Lexeme::BadLiteral,
         }
@@ -223,8 +236,8 @@ fn quoted(wide: bool, before: usize, bs: &[u8]) -> Lexeme
     ensures { λ r. ⌜ r ≡ quoted wide before (now (bs .entry)) ⌝ }
 {
     match text::byte_at(bs, before) {
-        39 => character(wide, before + 1, bs),
-        34 => string(wide, before + 1, bs),
+        text::QUOTE => character(wide, before + 1, bs),
+        text::DOUBLE_QUOTE => string(wide, before + 1, bs),
         _ => Lexeme::NoLexeme,
     }
 }

@@ -1,5 +1,5 @@
 -- How far a mark reaches: past its first byte, and not past the end of the text.
--- Past the end stands 256, which is in no spelling. Assumes nothing.
+-- Past the end stands no byte, and so none of a spelling. Assumes nothing.
 use mathlib.Core.Path.{_≡_, refl}
 use mathlib.Core.Bool.{Bool, true, false, cond}
 use mathlib.Core.List.{List, [], _∷_}
@@ -9,7 +9,7 @@ use borrow.Author.Tests.{ltb-true}
 use lib.Dec.{ltb}
 use lib.ListN.{length}
 use Rattle.kinds.specs.Kinds as kinds
-use Rattle.text.specs.Bytes.{at}
+use Rattle.text.specs.Bytes.{end, at}
 use Rattle.text.specs.Lexemes.{mark}
 use Rattle.text.specs.declared.Lexeme.the-variants.{Token, NoLexeme}
 use Rattle.text.proofs.Sizes.{Sized}
@@ -17,7 +17,7 @@ use Rattle.marks.proofs.Spellings.{no-second}
 use Rattle.marks.proofs.Starts.{start-inside}
 
 two-inside : (bs : List ℕ) → 0 < kinds.mark (at bs 0 ∷ at bs 1 ∷ []) → 2 ≤ length bs
-two-inside [] h = absurd (omega (arith, no-second 256))
+two-inside [] h = absurd (omega (arith, no-second end))
 two-inside (b ∷ []) h = absurd (omega (arith, no-second b))
 two-inside (b ∷ c ∷ bs) h = omega arith
 

@@ -1,5 +1,5 @@
 -- What the first byte says: where it starts a mark it stands inside the text and is in no other class; where not, there is no mark.
--- Past the end stands 256, which starts no mark; a mark of two bytes is a byte twice, and that byte starts a mark. Assumes nothing.
+-- Past the end stands no byte, which starts no mark; a mark of two bytes is a byte twice, and that byte starts a mark. Assumes nothing.
 use mathlib.Core.Path.{_≡_, refl, ap, sym, _∙_}
 use mathlib.Core.Bool.{Bool, true, false, not, _&&_, true≢false}
 use mathlib.Core.List.{List, [], _∷_}
@@ -10,7 +10,7 @@ use borrow.Author.Tests.{ne-eqb}
 use lib.Dec.{T, eqb}
 use lib.ListN.{length}
 use Rattle.kinds.specs.Kinds as kinds
-use Rattle.text.specs.Bytes.{at}
+use Rattle.text.specs.Bytes.{end, at}
 use Rattle.text.specs.Lexemes.{mark}
 use Rattle.text.specs.declared.Lexeme.the-variants.{NoLexeme}
 use Rattle.text.proofs.Ranges.{every, every-at}
@@ -27,10 +27,10 @@ not-both true true t e = absurd t
 not-both true false t e = refl
 not-both false b t e = absurd (true≢false (sym e))
 
--- a byte that starts a mark is not in the class, where that is so of each of the 256 bytes
-pub no-other : (class : ℕ → Bool) → T (every (λ b. not (starts-mark b && class b)) 0 256) →
-    {b : ℕ} → b < 256 → starts-mark b ≡ true → class b ≡ false
-no-other class t {b} h = not-both (starts-mark b) (class b) (every-at (λ b. not (starts-mark b && class b)) 0 256 t (omega arith) h)
+-- a byte that starts a mark is not in the class, where that is so of each byte
+pub no-other : (class : ℕ → Bool) → T (every (λ b. not (starts-mark b && class b)) 0 end) →
+    {b : ℕ} → b < end → starts-mark b ≡ true → class b ≡ false
+no-other class t {b} h = not-both (starts-mark b) (class b) (every-at (λ b. not (starts-mark b && class b)) 0 end t (omega arith) h)
 
 -- a byte outside a class is none inside it
 outside : (class : ℕ → Bool) (k x : ℕ) → class k ≡ true → class x ≡ false → eqb x k ≡ false

@@ -6,63 +6,64 @@ ghost use Rattle.kinds.specs.Kinds as kinds;
 ghost use Rattle.marks.specs.Starts.{starts-mark};
 ghost use Rattle.text.specs.Bytes.{at};
 ghost use Rattle.text.specs.Lexemes as lexemes;
+use kinds::kind;
 use text::Lexeme;
 
 // Whether a mark starts with this byte. In byte order the starts are %& ()*+,- / :;<=> [ ]^ {|}~.
-pub fn starts_mark(b: u8) -> bool
-    ensures { λ r. ⌜ r ≡ starts-mark b ⌝ }
+pub fn starts_mark(byte: u8) -> bool
+    ensures { λ r. ⌜ r ≡ starts-mark byte ⌝ }
 {
-    ((b'%' <= b) & (b <= b'&'))
-        | ((b'(' <= b) & (b <= b'-'))
-        | (b == b'/')
-        | ((b':' <= b) & (b <= b'>'))
-        | (b == b'[')
-        | ((b']' <= b) & (b <= b'^'))
-        | ((b'{' <= b) & (b <= b'~'))
+    ((b'%' <= byte) & (byte <= b'&'))
+        | ((b'(' <= byte) & (byte <= b'-'))
+        | (byte == b'/')
+        | ((b':' <= byte) & (byte <= b'>'))
+        | (byte == b'[')
+        | ((b']' <= byte) & (byte <= b'^'))
+        | ((b'{' <= byte) & (byte <= b'~'))
 }
 
 // The kind of the mark that is this byte; 0 where there is none. The marks stand in four dense ranges of bytes, chosen first:
 // each match is then a small table, where one for all of them is a jump.
-fn one_byte(b: u8) -> u32
-    ensures { λ r. ⌜ r ≡ kinds.mark (b ∷ []) ⌝ }
+fn one_byte(byte: u8) -> u32
+    ensures { λ r. ⌜ r ≡ kinds.mark (byte ∷ []) ⌝ }
 {
-    if b <= b'/' {
-        return match b {
-            b'%' => 86,
-            b'&' => 79,
-            b'(' => 71,
-            b')' => 72,
-            b'*' => 84,
-            b'+' => 82,
-            b',' => 68,
-            b'-' => 83,
-            b'/' => 85,
+    if byte <= b'/' {
+        return match byte {
+            b'%' => kind::PERCENT,
+            b'&' => kind::AMPERSAND,
+            b'(' => kind::OPEN_PARENTHESIS,
+            b')' => kind::CLOSE_PARENTHESIS,
+            b'*' => kind::STAR,
+            b'+' => kind::PLUS,
+            b',' => kind::COMMA,
+            b'-' => kind::MINUS,
+            b'/' => kind::SLASH,
             _ => 0,
         };
     }
-    if b <= b'>' {
-        return match b {
-            b':' => 67,
-            b';' => 64,
-            b'<' => 73,
-            b'=' => 70,
-            b'>' => 74,
+    if byte <= b'>' {
+        return match byte {
+            b':' => kind::COLON,
+            b';' => kind::SEMICOLON,
+            b'<' => kind::OPEN_ANGLE,
+            b'=' => kind::EQUALS,
+            b'>' => kind::CLOSE_ANGLE,
             _ => 0,
         };
     }
-    if b <= b'^' {
-        return match b {
-            b'[' => 75,
-            b']' => 76,
-            b'^' => 78,
+    if byte <= b'^' {
+        return match byte {
+            b'[' => kind::OPEN_BRACKET,
+            b']' => kind::CLOSE_BRACKET,
+            b'^' => kind::CARET,
             _ => 0,
         };
     }
-    match b {
-        b'{' => 65,
-        b'|' => 77,
-        b'}' => 66,
-        b'~' => 87,
+    match byte {
+        b'{' => kind::OPEN_BRACE,
+        b'|' => kind::BAR,
+        b'}' => kind::CLOSE_BRACE,
+        b'~' => kind::TILDE,
         _ => 0,
     }
 }
@@ -74,14 +75,14 @@ fn two_bytes(bs: &[u8]) -> u32
     if bs.len() < 2 {
         return 0;
     }
-    let b = bs[0];
-    if bs[1] != b {
+    let first = bs[0];
+    if bs[1] != first {
         return 0;
     }
-    match b {
-        b':' => 69,
-        b'<' => 81,
-        b'>' => 80,
+    match first {
+        b':' => kind::SCOPE,
+        b'<' => kind::SHIFT_LEFT,
+        b'>' => kind::SHIFT_RIGHT,
         _ => 0,
     }
 }
@@ -91,12 +92,12 @@ pub fn mark(bs: &[u8]) -> Lexeme
     requires { ⌜ starts-mark (at (now bs) 0) ≡ true ⌝ }
     ensures { λ r. ⌜ r ≡ lexemes.mark (now (bs .entry)) ⌝ }
 {
-    let b = bs[0];
-    if (b':' <= b) & (b <= b'>') {
+    let first = bs[0];
+    if (b':' <= first) & (first <= b'>') {
         let two = two_bytes(bs);
         if 0 < two {
             return Lexeme::Token(two, 2);
         }
     }
-    Lexeme::Token(one_byte(b), 1)
+    Lexeme::Token(one_byte(first), 1)
 }

@@ -3,3 +3,4 @@ pub mod Sense
 pub mod Verdict
 pub mod Answer
 pub mod Calls
+pub mod Samples

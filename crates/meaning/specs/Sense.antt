@@ -9,6 +9,7 @@ use Rattle.grammar.specs.Rule.{Edition}
 use Rattle.grammar.specs.Derivation.{Derivation}
 use Rattle.grammar.specs.Record.{TreeRecord, tree-record, records}
 use Rattle.grammar.specs.Blame.{Blame}
+use Rattle.tables.specs.Tables.{token-first}
 use Rattle.text.specs.Tokens.{tokens-of, tokens, fault}
 
 -- what a list of tokens is: blamed at a place, or derived with these tree records
@@ -21,12 +22,12 @@ pub data TextSense : Type 0 where
   faulty : (number place : ℕ) → TextSense
   read : (records : List (List ℕ)) → Sense → TextSense
 
--- the kind of a token record, its first number, and its first byte, its second
+-- the kind of a token record, which stands first in it, and its first byte
 abbrev pub kind : List ℕ → ℕ
 kind t = getD t 0 0
 
 abbrev pub first : List ℕ → ℕ
-first t = getD t 1 0
+first t = getD t token-first 0
 
 -- the four numbers of a tree record
 abbrev pub numbers : TreeRecord → List ℕ

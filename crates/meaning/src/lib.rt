@@ -1,1 +1,1 @@
-// What a text means and what a call answers: definitions and theorems alone, in specs/.
+// What a text means and what a call answers: definitions in specs/, theorems in proofs/. No code.

@@ -11,7 +11,7 @@ use borrow.Author.Tests.{eqb-true, eqb-false, leb-true, le-leb}
 use lib.Dec.{eqb, ltb, leb}
 use lib.ListN.{drop}
 use lib.Seq.{getD-drop}
-use Rattle.text.specs.Bytes.{from, at, run, digit, octal, hexadecimal}
+use Rattle.text.specs.Bytes.{from, end, at, run, digit, octal, hexadecimal}
 use Rattle.text.specs.Numbers.{either, only, decimal-integer, octal-integer, hexadecimal-integer, integer}
 use Rattle.numbers.proofs.Tests.{by-test, decided, conflict, refuted, both, either-class, zero-or-more, only-within}
 
@@ -21,7 +21,7 @@ run-none class [] e = refl
 run-none class (b ∷ bs) e = rw e
 
 run-first : (class : ℕ → Bool) (bs : List ℕ) →
-    class 256 ≡ false → class (at bs 0) ≡ true → run class bs ≡ 1 + run class (drop 1 bs)
+    class end ≡ false → class (at bs 0) ≡ true → run class bs ≡ 1 + run class (drop 1 bs)
 unfolding run
 run-first class [] s e = absurd (conflict e s)
 run-first class (b ∷ bs) s e = rw e (omega arith)
@@ -36,8 +36,8 @@ run-less class wider h (b ∷ bs) = only-within (class b) (λ e. rw (h b e) (ome
 octal-digit : (b : ℕ) → octal b ≡ true → digit b ≡ true
 unfolding octal digit
 octal-digit b e =
-    let p = both (leb 48 b) (leb b 55) e in
-    rw (p .0, le-leb b 57 (omega (arith, leb-true b 55 (p .1))))
+    let p = both (leb (code "0") b) (leb b (code "7")) e in
+    rw (p .0, le-leb b (code "9") (omega (arith, leb-true b (code "7") (p .1))))
 
 -- a digit is 0, or from 1 to 9
 no-digit : (b : ℕ) → eqb b (code "0") ≡ false → from (code "1") (code "9") b ≡ false → digit b ≡ false
@@ -45,9 +45,9 @@ unfolding digit
 no-digit b e f =
     refuted (digit b)
     (λ d.
-    let p = both (leb 48 b) (leb b 57) d in
-    let n = eqb-false b 48 e in
-    let t : from 49 57 b ≡ true = rw (le-leb 49 b (omega (arith, leb-true 48 b (p .0))), p .1) in
+    let p = both (leb (code "0") b) (leb b (code "9")) d in
+    let n = eqb-false b (code "0") e in
+    let t : from (code "1") (code "9") b ≡ true = rw (le-leb (code "1") b (omega (arith, leb-true (code "0") b (p .0))), p .1) in
     conflict t f)
 
 -- a decimal integer, or none
@@ -81,7 +81,7 @@ module _ (bs : List ℕ) (p : Prefixed bs (hexadecimal-integer bs)) (class : ℕ
   pub past-zero : class (at bs 1) ≡ false
   past-zero = either-class class false (code "x") (code "X") (at bs 1) x y (p .letter)
 
-  pub zero-alone : class (code "0") ≡ true → class 256 ≡ false → run class bs ≡ 1
+  pub zero-alone : class (code "0") ≡ true → class end ≡ false → run class bs ≡ 1
   zero-alone z e =
       let first = ap class (eqb-true (at bs 0) (code "0") (p .zero-digit)) ∙ z in
       omega (arith, run-first class bs e first, run-none class (drop 1 bs) (rw getD-drop past-zero))

@@ -11,7 +11,7 @@ use borrow.Author.Tests.{eqb-true, ltb-true}
 use lib.Dec.{eqb, ltb}
 use lib.ListN.{length, drop, length-drop}
 use Rattle.kinds.specs.Kinds as kinds
-use Rattle.text.specs.Bytes.{from, at, run, digit, octal, hexadecimal, wordly}
+use Rattle.text.specs.Bytes.{from, end, at, run, digit, octal, hexadecimal, wordly}
 use Rattle.text.specs.Numbers.{decimal-integer, octal-integer, hexadecimal-integer, integer}
 use Rattle.text.specs.Numbers.{either, pointed, mantissa, sign, exponent, floating, fixed, followed, longest, number}
 use Rattle.text.proofs.Rests.{byte-inside}
@@ -19,14 +19,14 @@ use Rattle.text.proofs.Runs.{run-within}
 use Rattle.text.proofs.Sizes.{Sized}
 use Rattle.numbers.proofs.Tests.{by-test, both, either-cases, only-within}
 
-pub stands-within : (bs : List ℕ) (n b : ℕ) → b < 256 → eqb (at bs n) b ≡ true → n < length bs
+pub stands-within : (bs : List ℕ) (n b : ℕ) → b < end → eqb (at bs n) b ≡ true → n < length bs
 stands-within bs n b h e = byte-inside bs n (omega (arith, eqb-true (at bs n) b e))
 
-pub either-within : (bs : List ℕ) (n x y : ℕ) → x < 256 → y < 256 → either x y (at bs n) ≡ true → n < length bs
+pub either-within : (bs : List ℕ) (n x y : ℕ) → x < end → y < end → either x y (at bs n) ≡ true → n < length bs
 either-within bs n x y h k e = byte-inside bs n (⊎-elim (λ s. omega arith) (λ s. omega arith) (either-cases x y (at bs n) e))
 
 -- a run that starts n bytes on
-pub run-from-within : (class : ℕ → Bool) (bs : List ℕ) (n : ℕ) → n ≤ length bs → n + run class (drop n bs) ≤ length bs
+run-from-within : (class : ℕ → Bool) (bs : List ℕ) (n : ℕ) → n ≤ length bs → n + run class (drop n bs) ≤ length bs
 run-from-within class bs n h = omega (arith, run-within class (drop n bs), length-drop n bs)
 
 run-after-within : (class : ℕ → Bool) (bs : List ℕ) (n : ℕ) →

@@ -3,34 +3,28 @@ ghost use mathlib.Core.Path.{_≡_};
 ghost use lib.Dec.{eqb};
 ghost use Rattle.text.specs.Bytes.{at, run, digit};
 ghost use Rattle.text.specs.Numbers as numbers;
+use kinds::kind;
 use text::Class;
 use text::Lexeme;
 use text::byte_at;
 use text::is_in;
 use text::run_of;
 
-// The kinds of number.
-const INTEGER: u32 = 2;
-
-const FLOATING: u32 = 3;
-
-const FIXED: u32 = 4;
-
-// Whether the byte b stands n places on.
-fn stands(bs: &[u8], n: usize, b: u8) -> bool
-    ensures { λ r. ⌜ r ≡ eqb (at (now (bs .entry)) n) b ⌝ }
+// Whether a byte stands at a place.
+fn stands(bs: &[u8], place: usize, byte: u8) -> bool
+    ensures { λ r. ⌜ r ≡ eqb (at (now (bs .entry)) place) byte ⌝ }
 {
-    byte_at(bs, n) == b as u32
+    byte_at(bs, place) == byte as u32
 }
 
-// Whether one of two bytes stands n places on.
-fn either(bs: &[u8], n: usize, x: u8, y: u8) -> bool
-    ensures { λ r. ⌜ r ≡ numbers.either x y (at (now (bs .entry)) n) ⌝ }
+// Whether one of two bytes stands at a place.
+fn either(bs: &[u8], place: usize, x: u8, y: u8) -> bool
+    ensures { λ r. ⌜ r ≡ numbers.either x y (at (now (bs .entry)) place) ⌝ }
 {
-    if stands(bs, n, x) {
+    if stands(bs, place, x) {
         return true;
     }
-    stands(bs, n, y)
+    stands(bs, place, y)
 }
 
 // The length of 0 and octal digits.
@@ -105,15 +99,15 @@ fn exponent(bs: &[u8]) -> usize
 }
 
 // A number of a kind and a length, unless a letter, digit or underscore follows it directly.
-fn followed(bs: &[u8], kind: u32, n: usize) -> Lexeme
-    ensures { λ r. ⌜ r ≡ numbers.followed (now (bs .entry)) kind n ⌝ }
+fn followed(bs: &[u8], kind: u32, size: usize) -> Lexeme
+    ensures { λ r. ⌜ r ≡ numbers.followed (now (bs .entry)) kind size ⌝ }
 {
-    if n < bs.len() {
-        if is_in(Class::Wordly, bs[n]) {
+    if size < bs.len() {
+        if is_in(Class::Wordly, bs[size]) {
             return Lexeme::BadLiteral;
         }
     }
-    Lexeme::Token(kind, n)
+    Lexeme::Token(kind, size)
 }
 
 // The number at the front: what follows its digits and its point tells the form.
@@ -126,11 +120,11 @@ pub fn number(bs: &[u8]) -> Lexeme
         return Lexeme::NoLexeme;
     }
     if either(bs, size, b'd', b'D') {
-        return followed(bs, FIXED, size + 1);
+        return followed(bs, kind::FIXED_LITERAL, size + 1);
     }
     let end = size + exponent(&bs[size..]);
     if whole < end {
-        return followed(bs, FLOATING, end);
+        return followed(bs, kind::FLOATING, end);
     }
-    followed(bs, INTEGER, integer(bs, whole))
+    followed(bs, kind::INTEGER, integer(bs, whole))
 }

@@ -1,11 +1,10 @@
-pub mod Deterministic
-pub mod Maximal
-pub mod Viable
-pub mod Choice
-pub mod IdlChecked
-pub mod SamePlans
-pub mod Verdict
-pub mod Bound
-pub mod Neighbours
-pub mod Theorems
-pub mod Renaming
+-- The layers of MenhirLib: plans, validator, interpreter, that it is correct and complete, theorems.
+-- Besides these, what two editions share.
+pub mod Sets
+pub mod plans
+pub mod validator
+pub mod interpreter
+pub mod correct
+pub mod complete
+pub mod theorems
+pub mod sharing

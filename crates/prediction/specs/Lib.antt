@@ -1,21 +1,7 @@
+-- The layers of MenhirLib: the grammar as plans, the validator, the interpreter.
+-- Besides these, what two editions share.
 pub mod Sets
-pub mod Plan
-pub mod Renaming
-pub mod Typing
-pub mod Look
-pub mod Compare
-pub mod Run
-pub mod Word
-pub mod RunDepth
-pub mod Inside
-pub mod Paths
-pub mod Equivalence
-pub mod RulesAsPlans
-pub mod Weight
-pub mod Parser
-pub mod Columns
-pub mod Check
-pub mod Planning
-pub mod PlanNotation
-pub mod IdlPlans
-pub mod Shared
+pub mod plans
+pub mod validator
+pub mod Interpreter
+pub mod sharing

@@ -1,1 +1,2 @@
-// Prediction: the grammar as plans of a one-token reader, and the theorems that tie them to the rules. All of it is in specs/.
+// Prediction: the grammar as plans of a one-token reader, the test of an edition, and the theorems that follow from it.
+// Definitions and theorems alone, in specs/ and proofs/.

@@ -1,5 +1,5 @@
--- What the program prints: paper 01, "A program reads standard input, at most 16,384 bytes, with 4,096 records in each table and depth 64;
--- a longer input prints as reply 1." Assumes nothing: these are definitions.
+-- What the program prints: paper 01, "A program reads standard input, at most 16,384 bytes, with 4,096 records in each table and
+-- depth 64; a longer input prints as reply 1." Assumes nothing: these are definitions.
 use mathlib.Core.Bool.{cond}
 use mathlib.Core.List.{List}
 use Prim.Native.Nat.{ℕ, _*_}

@@ -6,24 +6,28 @@ ghost use Rattle.grammar.specs.Idl.{idl};
 ghost use Rattle.meaning.specs.Sense.{TextSense, TextMeans};
 ghost use Rattle.printing.specs.Printed.{printed};
 use replies::Reply;
+use report::FIRST_LINE_SIZE;
+use report::NUMBER_SIZE;
+use tables::NODE_WIDTH;
+use tables::TOKEN_WIDTH;
 
 // The longest text in bytes.
 pub const LONGEST: usize = 16384;
 
-// The records that each table holds, and its numbers: three to a token record, four to a tree record.
+// The records that each table holds, and its numbers.
 const TOKEN_RECORDS: usize = 4096;
 
 const TREE_RECORDS: usize = 4096;
 
-const TOKENS: usize = 3 * TOKEN_RECORDS;
+const TOKENS: usize = TOKEN_WIDTH * TOKEN_RECORDS;
 
-const TREE: usize = 4 * TREE_RECORDS;
+const TREE: usize = NODE_WIDTH * TREE_RECORDS;
 
 // The depth setting is the program's own: it stays where the reader's ceiling grows.
 const DEPTH: u32 = 64;
 
-// What a report needs: 52 bytes for its first line, and 11 for each number of the tree.
-pub const ROOM: usize = 52 + 11 * TREE;
+// What a report needs: its first line, and each number of the tree.
+pub const ROOM: usize = FIRST_LINE_SIZE + NUMBER_SIZE * TREE;
 
 pub fn put_answer(text: &[u8], out: &mut [u8; ROOM]) -> usize
     ensures written { λ r. ⌜ ((sense : TextSense) → TextMeans idl (now (text .entry)) sense →

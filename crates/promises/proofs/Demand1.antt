@@ -15,8 +15,8 @@ use Rattle.meaning.specs.Sense.{kind}
 use Rattle.meaning.specs.Verdict.{verdict}
 use Rattle.meaning.specs.Calls.{Answered, first-records, good-tree-call, TreeAnswered}
 use Rattle.meaning.proofs.Refusals.{Refused, tree-either, text-either}
-use Rattle.prediction.specs.Check.{Checked}
-use Rattle.verdicts.proofs.OneMeaning.{some-sense}
+use Rattle.prediction.specs.validator.Check.{Checked}
+use Rattle.meaning.proofs.OneMeaning.{some-sense}
 use Rattle.promises.proofs.Soundness.{found, answers-found}
 
 -- so a call is bad and answered 1, or good and accepted or refused

@@ -25,8 +25,8 @@ use Rattle.meaning.specs.Answer.{place, tree-reply, tree-after, text-reply, tex
 use Rattle.meaning.specs.Calls.{Answered, first-records, good-tree-call, TreeAnswered}
 use Rattle.meaning.proofs.Deep.{first-after}
 use Rattle.meaning.proofs.Laws.{fault-range, room-judged, room-accepted, blame-given, records-given, tokens-stay}
-use Rattle.prediction.specs.Check.{Checked}
-use Rattle.verdicts.proofs.OneMeaning.{some-sense}
+use Rattle.prediction.specs.validator.Check.{Checked}
+use Rattle.meaning.proofs.OneMeaning.{some-sense}
 use Rattle.promises.specs.Demands.{TreeAccepted, Accepted, TreeBlamed, Blamed}
 use Rattle.promises.proofs.Soundness.{SoundTree, Sound, tree-sound, found-sound, answers-found}
 

@@ -23,8 +23,8 @@ use Rattle.meaning.specs.Answer.{tree-reply, text-reply, tokens-kept, tree-afte
 use Rattle.meaning.specs.Calls.{Answered}
 use Rattle.meaning.proofs.Laws.{fault-range, room-judged, room-accepted}
 use Rattle.meaning.proofs.SecondCall.{Follows, TextFollows, text-verdict-follows}
-use Rattle.prediction.specs.Check.{Checked}
-use Rattle.verdicts.proofs.OneMeaning.{some-text-sense}
+use Rattle.prediction.specs.validator.Check.{Checked}
+use Rattle.meaning.proofs.OneMeaning.{some-text-sense}
 use Rattle.promises.specs.Demands.{Blames, Kept, Again}
 use Rattle.promises.proofs.Places.{places-grow}
 use Rattle.promises.proofs.Soundness.{SoundTree, Sound, tree-wide, found, found-sound, answers-found}

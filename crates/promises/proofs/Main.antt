@@ -20,10 +20,10 @@ use Rattle.meaning.specs.Sense.{Sense, Means, TextSense, TextMeans, kind, tree-
 use Rattle.meaning.specs.Verdict.{verdict}
 use Rattle.meaning.specs.Answer.{place}
 use Rattle.meaning.specs.Calls.{Answered, first-records, good-tree-call, TreeAnswered}
-use Rattle.prediction.proofs.Theorems as theorems
-use Rattle.verdicts.specs.Samples.{All, Holds, starred}
-use Rattle.verdicts.proofs.OneMeaning.{some-text-sense, one-text-sense}
-use Rattle.verdicts.proofs.Samples.{starred-hold}
+use Rattle.prediction.proofs.theorems.Theorems as theorems
+use Rattle.meaning.specs.Samples.{All, Holds, starred}
+use Rattle.meaning.proofs.OneMeaning.{some-text-sense, one-text-sense}
+use Rattle.meaning.proofs.Samples.{starred-hold}
 use Rattle.promises.specs.Editions.{Offered}
 use Rattle.promises.specs.Demands.{Mixed, TreeAccepted, Accepted, TreeBlamed, Blamed, Kept, Again, TreeKept}
 use Rattle.promises.proofs.Editions.{checked-of}

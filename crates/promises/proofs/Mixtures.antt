@@ -9,11 +9,11 @@ use Rattle.grammar.specs.Derivation.{kind-at}
 use Rattle.promises.specs.Editions.{Offered, edition-1}
 use Rattle.grammar.specs.Rule.{Edition}
 use Rattle.kinds.specs.Kinds.{string, wide-string}
-use Rattle.prediction.specs.Check.{Checked, plans-of, table}
-use Rattle.prediction.specs.Columns.{every, plan-at, round}
-use Rattle.prediction.specs.IdlPlans.{idl-prediction}
+use Rattle.prediction.specs.validator.Check.{Checked, plans-of, table}
+use Rattle.prediction.specs.validator.Fixpoint.{every, plan-at, round}
+use Rattle.prediction.specs.plans.IdlPlans.{idl-prediction}
 use Rattle.promises.proofs.Editions.{checked-of}
-use Rattle.prediction.proofs.Neighbours.{keeps-apart, blamed-beside}
+use Rattle.prediction.proofs.theorems.Neighbours.{keeps-apart, blamed-beside}
 use Rattle.promises.specs.Demands.{Mixed, wide-behind-narrow, narrow-behind-wide}
 
 -- no plan has a token of kind l directly behind one of kind k

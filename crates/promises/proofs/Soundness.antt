@@ -24,8 +24,8 @@ use Rattle.meaning.specs.Answer.{text-reply, text-tokens-after, text-tree-after
 use Rattle.meaning.specs.Calls.{Answered}
 use Rattle.meaning.proofs.Deep.{first-within}
 use Rattle.meaning.proofs.Laws.{four-wide}
-use Rattle.prediction.specs.Check.{Checked}
-use Rattle.verdicts.proofs.OneMeaning.{some-text-sense}
+use Rattle.prediction.specs.validator.Check.{Checked}
+use Rattle.meaning.proofs.OneMeaning.{some-text-sense}
 
 -- the records of a tree are those of a derivation of the tokens; they fit, and no mark is too deep
 pub record Tree (E : Edition) (setting room : ℕ) (tokens rs : List (List ℕ)) : Type 0 where

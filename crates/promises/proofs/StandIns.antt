@@ -9,6 +9,7 @@ use native.Mathlib.Omega.{arith}
 use lib.Dec.{ltb}
 use lib.ListN.{length, getD}
 use Rattle.kinds.specs.Kinds.{bytes}
+use Rattle.grammar.specs.Names.{rule}
 use Rattle.grammar.specs.Derivation.{kind-at}
 use Rattle.promises.specs.Editions.{edition-1}
 use Rattle.grammar.specs.Idl.{idl}
@@ -21,8 +22,8 @@ use Rattle.meaning.specs.Verdict as verdict
 use Rattle.meaning.specs.Verdict.{full-tokens, judgement, text-verdict}
 use Rattle.meaning.specs.Answer.{tree-reply, text-reply}
 use Rattle.meaning.specs.Calls.{Answered}
-use Rattle.verdicts.specs.Samples.{Row, tree-of, Holds, All, more, starred}
-use Rattle.verdicts.proofs.Samples.{starred-hold}
+use Rattle.meaning.specs.Samples.{Row, tree-of, Holds, All, more, starred}
+use Rattle.meaning.proofs.Samples.{starred-hold}
 use Rattle.promises.specs.Demands.{Accepted, Blames, Kept, Again}
 use Rattle.promises.proofs.Main.{some-meaning}
 
@@ -71,7 +72,7 @@ seventh (more p (more q (more r (more s (more t (more u (more v l))))))) = v
 module _ {table tree : List ℕ} {setting : ℕ} {r : Reply} {table′ tree′ : List ℕ}
     (a : Accepted idl (bytes "native A;") table tree setting r table′ tree′) where
   -- "that writes no records": the tree table does not stay as it was
-  pub no-records : (getD tree 0 0 ≡ 51 → ⊥) → tree′ ≡ tree → ⊥
+  pub no-records : (getD tree 0 0 ≡ rule "simple_declarator" → ⊥) → tree′ ≡ tree → ⊥
   unfolding starred row
   no-records n e =
       n (ap (λ (l : List ℕ). getD l 0 0) (sym e ∙ sample-tree _ (second starred-hold) refl a))
@@ -81,7 +82,7 @@ module _ {table tree : List ℕ} {setting : ℕ} {r : Reply} {table′ tree′ :
       Accepted idl (bytes "exception A { };") table₂ tree setting₂ r₂ table₂′ tree₂′ → tree′ ≡ tree₂′ → ⊥
   unfolding starred row
   one-tree b e =
-      let z : _≡_ {A = ℕ} 51 86 =
+      let z : _≡_ {A = ℕ} (rule "simple_declarator") (rule "except_dcl") =
       ap (λ (l : List ℕ). getD l 0 0) (sym (sample-tree _ (second starred-hold) refl a) ∙ e ∙ sample-tree _ (seventh starred-hold) refl b) in
       omega arith
 
@@ -89,7 +90,7 @@ module _ {table tree : List ℕ} {setting : ℕ} {r : Reply} {table′ tree′ :
 pub refuses-everything : {table tree : List ℕ} {r : Reply} {table′ tree′ : List ℕ} →
     Answered idl (bytes "native A;") table tree 64 r table′ tree′ → capacity token-width table ≡ 64 → capacity node-width tree ≡ 64 →
     r .number ≡ 0
-unfolding starred Holds bytes
+unfolding starred Holds
 refuses-everything {table} {tree} a c k =
     let s = some-meaning edition-1 (bytes "native A;") in
     let x = rw (c, k) at (a .inside refl (s .0) (s .1) .0) in

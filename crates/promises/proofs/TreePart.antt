@@ -15,8 +15,8 @@ use Rattle.meaning.specs.Answer.{tree-reply, tree-after}
 use Rattle.meaning.specs.Calls.{first-records, good-tree-call, TreeAnswered}
 use Rattle.meaning.proofs.Laws.{room-accepted}
 use Rattle.meaning.proofs.SecondCall.{Follows, verdict-follows}
-use Rattle.prediction.specs.Check.{Checked}
-use Rattle.verdicts.proofs.OneMeaning.{some-sense}
+use Rattle.prediction.specs.validator.Check.{Checked}
+use Rattle.meaning.proofs.OneMeaning.{some-sense}
 use Rattle.promises.specs.Demands.{Again, TreeKept}
 use Rattle.promises.proofs.Soundness.{SoundTree, tree-sound, tree-wide}
 use Rattle.promises.proofs.Demand3.{same-front, records-again}

@@ -41,7 +41,7 @@ length-kept width table q h =
     ap length (sym (store-front width table q (capacity-fits width table _ h))) ∙ length-store width table 0 _
 
 -- the tokens are cleared by a refusal
-kept-refused : (text : ℕ) (ts : List (List ℕ)) (table : List ℕ) (v : Verdict) → (tree-reply text ts v .number ≡ 0 → ⊥) →
+kept-refused : (text : ℕ) (ts : List (List ℕ)) (table : List ℕ) (v : Verdict) → (tree-reply text ts v .number ≡ rows.accepted-number → ⊥) →
     tokens-kept v ts table ≡ zeroed table
 unfolding tree-reply tokens-kept
 kept-refused text ts table (verdicts.grammar q) e = refl
@@ -70,7 +70,8 @@ module _ (setting : ℕ) (text table tree : List ℕ) {r : Bounded} {l : Limits}
       (reply ≡ text-reply (length text) v) × ((tokens′ ≡ text-tokens-after v table) × (tree′ ≡ text-tree-after v tree))
 
   -- a refusal of the token part
-  refused-right : {E : Edition} (sense : TextSense) → TextMeans E text sense → (answer (length text) table (tokens-of text) .number ≡ 0 → ⊥) →
+  refused-right : {E : Edition} (sense : TextSense) → TextMeans E text sense →
+      (answer (length text) table (tokens-of text) .number ≡ rows.accepted-number → ⊥) →
       Right (answer (length text) table (tokens-of text)) (filled table (tokens-of text)) (zeroed tree) sense
   unfolding Right text-verdict text-reply text-tokens-after text-tree-after
   refused-right sense (means-fault e) n = rw e (refl, (refl, refl))
@@ -80,7 +81,7 @@ module _ (setting : ℕ) (text table tree : List ℕ) {r : Bounded} {l : Limits}
       cap = capacity token-width table
 
       go : (b : Bool) → room table ts ≡ b →
-          ((cond b (rows.accepted (length text) (length ts) 0) (rows.more-tokens (length text) (length ts))) .number ≡ 0 → ⊥) →
+          ((cond b (rows.accepted (length text) (length ts) 0) (rows.more-tokens (length text) (length ts))) .number ≡ rows.accepted-number → ⊥) →
           Right (cond b (rows.accepted (length text) (length ts) 0) (rows.more-tokens (length text) (length ts)))
           (cond b (front token-width ts table) (zeroed table)) (zeroed tree) (read ts s)
       go true u n = absurd (n refl)
@@ -129,18 +130,18 @@ module _ (setting : ℕ) (text table tree : List ℕ) {r : Bounded} {l : Limits}
         subst (λ (l : List (List ℕ)). Right reply tokens′ tree′ (read l s)) p
         (right s (subst (λ (l : List (List ℕ)). Means E (map kind l) s) (sym p) m) tokens′ kept)
 
-    accepted-right : reply .number ≡ 0 → (sense : TextSense) → TextMeans E text sense → Right reply (front token-width ts table) tree′ sense
+    accepted-right : reply .number ≡ rows.accepted-number → (sense : TextSense) → TextMeans E text sense → Right reply (front token-width ts table) tree′ sense
     accepted-right z sense m =
         both-right sense m (front token-width ts table) (λ v a. sym (tokens-stay (length text) ts table v (sym (ap (λ (r : Reply). r .number) a) ∙ z)))
 
-    denied-right : (reply .number ≡ 0 → ⊥) → (sense : TextSense) → TextMeans E text sense →
+    denied-right : (reply .number ≡ rows.accepted-number → ⊥) → (sense : TextSense) → TextMeans E text sense →
         Right reply (zeroed (front token-width ts table)) tree′ sense
     denied-right n sense m =
         both-right sense m (zeroed (front token-width ts table))
         (λ v a. zeroed-is ∙ sym (kept-refused (length text) ts table v (λ z. n (ap (λ (r : Reply). r .number) a ∙ z))))
 
   pub refused : {E : Edition} {reply : Reply} {tokens′ tree′ : List ℕ} → reply ≡ token-reply text table → tokens′ ≡ token-table text table →
-      (reply .number ≡ 0 → ⊥) → tree′ ≡ zeroed tree → Answered E text table tree setting reply tokens′ tree′
+      (reply .number ≡ rows.accepted-number → ⊥) → tree′ ≡ zeroed tree → Answered E text table tree setting reply tokens′ tree′
   unfolding Right
   refused {reply = reply} a b n c = record {
     outside = λ u. absurd (true≢false (sym good ∙ u));
@@ -158,7 +159,7 @@ module _ (setting : ℕ) (text table tree : List ℕ) {r : Bounded} {l : Limits}
     table-now : tokens′ ≡ front token-width list table
 
   some-tokens : (reply : Reply) (tokens′ : List ℕ) → reply ≡ token-reply text table → tokens′ ≡ token-table text table →
-      reply .number ≡ 0 → Accepted reply tokens′
+      reply .number ≡ rows.accepted-number → Accepted reply tokens′
   some-tokens reply tokens′ a b z = go (tokens-of text) refl (a ∙ reply-is) (b ∙ table-is)
     where
       roomy : (ts : List (List ℕ)) → tokens-of text ≡ tokens ts → (x : Bool) → room table ts ≡ x →
@@ -172,7 +173,7 @@ module _ (setting : ℕ) (text table tree : List ℕ) {r : Bounded} {l : Limits}
       go (fault number place) e c d = let w = ap (λ (r : Reply). r .number) c in absurd (omega (arith, fault-range number place .0))
 
   module _ {E : Edition} {found : Reply} {middle : List ℕ} (a : found ≡ token-reply text table) (b : middle ≡ token-table text table)
-      (z : found .number ≡ 0) {count : ℕ} (k : count ≡ found .tokens) {reply : Reply} {tree′ : List ℕ}
+      (z : found .number ≡ rows.accepted-number) {count : ℕ} (k : count ≡ found .tokens) {reply : Reply} {tree′ : List ℕ}
       (judged : TreeAnswered E middle count (length text) tree setting reply tree′) where
     judged-list : (x : Accepted found middle) →
         TreeAnswered E (front token-width (x .list) table) (length (x .list)) (length text) tree setting reply tree′
@@ -180,7 +181,7 @@ module _ (setting : ℕ) (text table tree : List ℕ) {r : Bounded} {l : Limits}
         subst (λ (n : ℕ). TreeAnswered E (front token-width (x .list) table) n (length text) tree setting reply tree′) (k ∙ x .counted)
         (subst (λ (l : List ℕ). TreeAnswered E l count (length text) tree setting reply tree′) (x .table-now) judged)
 
-    pub accepted : reply .number ≡ 0 → Answered E text table tree setting reply middle tree′
+    pub accepted : reply .number ≡ rows.accepted-number → Answered E text table tree setting reply middle tree′
     unfolding Right
     accepted n =
         let x = some-tokens found middle a b z in
@@ -191,7 +192,7 @@ module _ (setting : ℕ) (text table tree : List ℕ) {r : Bounded} {l : Limits}
               (r .0, (x .table-now ∙ r .1 .0, r .1 .1));
         }
 
-    pub denied : {tokens′ : List ℕ} → (reply .number ≡ 0 → ⊥) → tokens′ ≡ zeroed middle →
+    pub denied : {tokens′ : List ℕ} → (reply .number ≡ rows.accepted-number → ⊥) → tokens′ ≡ zeroed middle →
         Answered E text table tree setting reply tokens′ tree′
     unfolding Right
     denied n c =

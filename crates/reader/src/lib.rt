@@ -1,19 +1,13 @@
 // The whole reader: the token part, then the tree part.
-ghost use mathlib.Core.Path.{_≡_};
 ghost use Rattle.grammar.specs.Idl.{idl};
 ghost use Rattle.meaning.specs.Calls.{Answered};
 use limits::Bounded;
 use limits::Limits;
 use replies::Reply;
 use tables::clear;
+use tables::index;
 use tokens::read_tokens;
 use tree::read_tree;
-
-fn index(n: u32) -> usize
-    ensures { λ r. ⌜ r ≡ n ⌝ }
-{
-    n as usize
-}
 
 // Reads a text into a token table and a tree table, with a depth setting.
 pub fn read(text: &[u8], tokens: &mut [u32], tree: &mut [u32], depth: u32) -> Reply
@@ -26,12 +20,12 @@ pub fn read(text: &[u8], tokens: &mut [u32], tree: &mut [u32], depth: u32) -> Re
         return Reply::outside_limits();
     };
     let found = read_tokens(text, tokens);
-    if found.number != 0 {
+    if found.number != Reply::ACCEPTED {
         clear(tree);
         return found;
     }
     let answer = read_tree(tokens, index(found.tokens), text.len(), tree, depth);
-    if answer.number == 0 {
+    if answer.number == Reply::ACCEPTED {
         return answer;
     }
     clear(tokens);

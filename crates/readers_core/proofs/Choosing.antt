@@ -9,16 +9,16 @@ use mathlib.Core.List.{List, [], _∷_, _++_}
 use lib.Dec.{T, T-not, not-T, eqb, eqb→eq}
 use Rattle.grammar.specs.Forest.{Forest}
 use Rattle.grammar.specs.Sets.{elem}
-use Rattle.prediction.specs.Sets.{subset, disjoint, subset-in, disjoint-not, and-left, and-right, and-both, or-left}
-use Rattle.prediction.specs.Sets.{row, each, each-at, or-right, or-cases, decide, elem-left, elem-right, elem-eq, eq→eqb}
-use Rattle.prediction.specs.Plan.{Plan, token, group, call, wrap, seq, alt, skip, many}
-use Rattle.prediction.specs.Typing.{Table, first, null}
-use Rattle.prediction.specs.Run.{Outcome, goes, turns, Runs, run-left, run-right, run-neither, run-seq}
-use Rattle.prediction.specs.Run.{run-seq-stop}
-use Rattle.prediction.specs.Run.{run-skip, run-last, run-more, run-more-stop}
-use Rattle.prediction.proofs.Choice.{miss, run-then, run-else}
-use Rattle.prediction.specs.Check.{all-typed, null-exactly}
-use Rattle.prediction.specs.Renaming.{Inside, renamed}
+use Rattle.prediction.specs.Sets.{subset, disjoint, row, each}
+use Rattle.prediction.proofs.Sets.{subset-in, disjoint-not, and-left, and-right, and-both, or-left, each-at, or-right}
+use Rattle.prediction.proofs.Sets.{or-cases, decide, elem-left, elem-right, elem-eq, eq→eqb}
+use Rattle.prediction.specs.plans.Plan.{Plan, token, group, call, wrap, seq, alt, skip, many}
+use Rattle.prediction.specs.validator.Typing.{Table, first, null}
+use Rattle.prediction.specs.Interpreter.{Outcome, goes, turns, Runs, run-left, run-right, run-neither, run-seq}
+use Rattle.prediction.specs.Interpreter.{run-seq-stop, run-skip, run-last, run-more, run-more-stop}
+use Rattle.prediction.proofs.interpreter.Choice.{miss, run-then, run-else}
+use Rattle.prediction.proofs.validator.Check.{all-typed, null-exactly}
+use Rattle.prediction.specs.sharing.Renaming.{Inside, renamed}
 use Rattle.readers_core.specs.Course.{Course, Shares, table-in}
 use Rattle.readers_core.proofs.Sharing.{first-shared, null-shared}
 

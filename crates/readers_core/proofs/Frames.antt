@@ -1,26 +1,29 @@
 -- Readers of a whole rule: what a choice comes to as the next kind tells, and a frame of its own for the rule.
 -- A frame begins with nothing and ends as one node behind its caller's forest; a stopped state passes. Assumes nothing.
-use Prim.Native.Nat.{ℕ, zero, suc, _+_, _*_, _%_, _^_, _<_}
+use Prim.Native.Nat.{ℕ, zero, suc, _+_, _*_, _%_, _<_}
 use native.Mathlib.Omega.{arith}
 use mathlib.Core.Path.{_≡_, refl, ap, sym, _∙_, subst}
-use mathlib.Core.Bool.{Bool, true, false, not, cond}
+use mathlib.Core.Bool.{Bool, true, false, not, _&&_, cond}
 use mathlib.Core.List.{List, [], _∷_}
 use mathlib.Core.Logic.{_⊎_, inl, inr}
 use lib.Dec.{T, eqb, eqb→eq, ltb, ltb→lt, nltb→le}
 use lib.ListN.{length, List·getD-eq-default}
-use Rattle.prediction.specs.Sets.{decide}
-use Rattle.prediction.specs.Plan.{Plan, call, token, seq, wrap}
+use Rattle.prediction.proofs.Sets.{and-left, and-right, decide, each-at}
+use Rattle.prediction.specs.Sets.{each}
+use Rattle.prediction.specs.plans.Plan.{same-plan, Plan, call, token, seq, wrap}
+use Rattle.prediction.proofs.plans.Plan.{same-plan-equal}
 use Rattle.grammar.specs.Forest.{Forest}
-use Rattle.prediction.specs.Run.{Outcome, Runs, run-seq, run-seq-stop}
-use Rattle.prediction.specs.Renaming.{Inside, renamed}
+use Rattle.prediction.specs.Interpreter.{Outcome, Runs, run-seq, run-seq-stop}
+use Rattle.prediction.specs.sharing.Renaming.{Inside, renamed}
+use Rattle.tables.specs.Tables.{token-width}
 use Rattle.readers_core.specs.Course.{Course, Shares, table-in}
-use Rattle.readers_core.specs.Reading.{kind-at, ahead, half, stop, Short, view, State, Seen, Does, From, Reads, none-recorded}
+use Rattle.readers_core.specs.Reading.{kind-at, ahead, half, stop, Addressable, view, State, Seen, Does, From, Reads, none-recorded}
 use Rattle.readers_core.specs.Reading.{Opens, opens-inside, opens-stopped}
 use Rattle.readers_core.proofs.Shapes.{leaves}
 use Rattle.readers_core.proofs.Sequence.{does-call, does-stays, read-as, taken, _▸_, unrecorded}
 use Rattle.readers_core.proofs.Views.{goes-on, going-at, has-stopped, onward-answers, onward-at, onward-count}
 use Rattle.readers_core.proofs.Views.{onward-goes, onward-there}
-use Rattle.readers_core.proofs.Choosing.{Known, Knows, choose, run-chosen, inside-choose, choose-shared, one-of, run-one-of}
+use Rattle.readers_core.proofs.Choosing.{AnyOf, Known, Knows, among, any-elem, choose, run-chosen, inside-choose, choose-shared, one-of, run-one-of}
 use Rattle.readers_core.proofs.Choosing.{one-of-shared}
 
 pub going : (n : ℕ) → (n ≡ 0) ⊎ (n ≡ 0 → ⊥)
@@ -38,16 +41,16 @@ ahead-none ks s n = go (eqb (view s .answer) 0) (eqb→eq (view s .answer) 0)
     go false u = refl
 
 -- a token that is there stands in the table
-pub in-table : (ks : List ℕ) (i k : ℕ) → Short ks → 0 < k → kind-at ks i ≡ k → 3 * i < 2 ^ 32
-in-table ks i k h z e = go (decide (ltb (3 * i) (length ks)))
+pub in-table : (ks : List ℕ) (i k : ℕ) → Addressable ks → 0 < k → kind-at ks i ≡ k → token-width * i < half
+in-table ks i k h z e = go (decide (ltb (token-width * i) (length ks)))
   where
-    go : T (ltb (3 * i) (length ks)) ⊎ T (not (ltb (3 * i) (length ks))) → 3 * i < 2 ^ 32
-    go (inl u) = let l = ltb→lt (3 * i) (length ks) u in omega arith
-    go (inr u) = let x = List·getD-eq-default ks 0 (nltb→le (3 * i) (length ks) u) in absurd (omega arith)
+    go : T (ltb (token-width * i) (length ks)) ⊎ T (not (ltb (token-width * i) (length ks))) → token-width * i < half
+    go (inl u) = let l = ltb→lt (token-width * i) (length ks) u in omega arith
+    go (inr u) = let x = List·getD-eq-default ks 0 (nltb→le (token-width * i) (length ks) u) in absurd (omega arith)
 
 -- one that is there is taken; at a stop, that stays
-module _ (ks : List ℕ) (k s : ℕ) (h : Short ks) (z : 0 < k) (e : kind-at ks (s % half) ≡ k) where
-  fits : 3 * (s % half) < 2 ^ 32
+module _ (ks : List ℕ) (k s : ℕ) (h : Addressable ks) (z : 0 < k) (e : kind-at ks (s % half) ≡ k) where
+  fits : token-width * (s % half) < half
   fits = in-table ks (s % half) k h z e
 
   there : s < stop → kind-at ks (view s .at) ≡ k
@@ -84,6 +87,20 @@ pub known-there : (ks : List ℕ) (s : ℕ) (k : Known) {x : ℕ} → x ≡ ahea
     Knows k (kind-at ks (view s .at))
 known-there ks s k e h z = subst (λ (n : ℕ). Knows k n) (e ∙ ahead-kind ks s z) h
 
+-- where k is known of the next kind, plan p comes to plan q: a test that computes
+unfoldable pub comes-to : Course → Known → (p q : Plan) → Bool
+unfolding same-plan choose
+comes-to R k p q = same-plan (choose (table-in R) k p) q
+
+-- where kind k stands ahead, rule n comes to a use of the rule `target k`; for each kind of a list, with no record
+unfoldable pub passes-to : Course → (n : ℕ) (target : ℕ → ℕ) (k : ℕ) → Bool
+unfolding comes-to
+passes-to R n target k = comes-to R (among (k ∷ [])) (table-in R .plan n) (seq (call (target k)) (wrap n))
+
+unfoldable pub passes-on : Course → (n : ℕ) (target : ℕ → ℕ) → List ℕ → Bool
+unfolding each passes-to none-recorded
+passes-on R n target ls = each (passes-to R n target) ls && none-recorded R n (1 ∷ [])
+
 module _ {R : Course} {ks : List ℕ} {d : ℕ} where
   -- what a plan comes to, as the next kind tells
   pub chosen : {x : ℕ} {p : Plan} {start : ℕ} {hs : List ℕ} {s s′ : State} (k : Known) → x ≡ ahead ks (s .0) → Knows k x →
@@ -94,6 +111,14 @@ module _ {R : Course} {ks : List ℕ} {d : ℕ} where
         run-chosen C (kind-at ks) k (known-there ks (s .0) k e h z) (renamed (m .number) p)
         (subst (λ (q : Plan). Runs (table-in C) (kind-at ks) d q (view (s .0) .at) f o) (sym (choose-shared m k p u)) r),
   ))
+
+  -- the same by a test
+  pub coming : {x : ℕ} {p q : Plan} {start : ℕ} {hs : List ℕ} {s s′ : State} (k : Known) → x ≡ ahead ks (s .0) → Knows k x →
+      T (comes-to R k p q) → From R ks d start hs q s s′ → From R ks d start hs p s s′
+  unfolding comes-to
+  coming {p = p} {q = q} {start = start} {hs = hs} {s = s} {s′ = s′} k e h t y =
+      chosen k e h
+      (subst (λ (z : Plan). From R ks d start hs z s s′) (sym (same-plan-equal (choose (table-in R) k p) q t)) y)
 
   -- a choice between tokens, of which the next is one, and what stands behind it
   pub taken-of : {x : ℕ} {p q : Plan} {start : ℕ} {hs : List ℕ} {s s′ : State} (k : Known) → x ≡ ahead ks (s .0) → Knows k x →
@@ -150,3 +175,14 @@ module _ {R : Course} {ks : List ℕ} {d : ℕ} where
     passed-on k e h c t y =
         frame-on k e h
         (subst (λ (p : Plan). From R ks d s (0 ∷ []) p (s, w) (u, w′)) (sym c) (y .in-any s (0 ∷ []) ▸ unrecorded t))
+
+    -- the same where one of several kinds stands ahead
+    pub passed-by : {x : ℕ} (target : ℕ → ℕ) (ls : List ℕ) → x ≡ ahead ks s → AnyOf ls x → T (passes-on R n target ls) →
+        Reads R ks d (call (target x)) (s, w) (u, w′) → Reads R ks d (call n) (s, w) (u, w′)
+    unfolding Knows passes-on passes-to comes-to leaves
+    passed-by {x} target ls e h t y =
+        passed-on (among (x ∷ [])) e refl
+        (same-plan-equal (choose (table-in R) (among (x ∷ [])) (table-in R .plan n)) (seq (call (target x)) (wrap n))
+        (each-at (passes-to R n target) ls x (and-left (each (passes-to R n target) ls) (none-recorded R n (1 ∷ [])) t)
+        (any-elem ls x h)))
+        (and-right (each (passes-to R n target) ls) (none-recorded R n (1 ∷ [])) t) y

@@ -4,21 +4,27 @@ use Prim.Native.Nat.{ℕ, suc, _-_, _<_}
 use native.Mathlib.Numerals.{add-one}
 use native.Mathlib.Omega.{arith}
 use mathlib.Core.Path.{_≡_, refl, sym, _∙_, subst}
+use mathlib.Core.Bool.{Bool, true, false}
 use mathlib.Core.List.{List, [], _∷_}
+use mathlib.Core.Logic.{_⊎_, inl, inr}
+use lib.Dec.{leb}
 use Rattle.grammar.specs.Forest.{Forest, leaf}
 use Rattle.grammar.specs.Record.{shape}
 use Rattle.grammar.specs.Sets.{elem}
-use Rattle.prediction.specs.Plan.{Plan, token, group, seq}
-use Rattle.prediction.specs.Run.{Outcome, blame, deep, stopped, Runs, run-token, run-miss, run-shut, run-deep}
-use Rattle.prediction.specs.Run.{run-inside}
-use Rattle.prediction.specs.Run.{run-group, run-unclosed, run-seq, run-seq-stop}
-use Rattle.prediction.specs.Renaming.{Inside, renamed}
-use Rattle.prediction.specs.Typing.{Table}
+use Rattle.prediction.specs.plans.Plan.{Plan, token, group, seq}
+use Rattle.prediction.specs.Interpreter.{Outcome, blame, deep, stopped, Runs, run-token, run-miss, run-shut, run-deep}
+use Rattle.prediction.specs.Interpreter.{run-inside, run-group, run-unclosed, run-seq, run-seq-stop}
+use Rattle.prediction.specs.sharing.Renaming.{Inside, renamed}
+use Rattle.prediction.specs.validator.Typing.{Table}
 use Rattle.readers_core.specs.Course.{Course, table-in}
-use Rattle.readers_core.specs.Reading.{kind-at, view, State, ends-blame, ends-deep, From}
+use Rattle.readers_core.specs.Reading.{kind-at, stop, view, State, several, ends-blame, ends-deep, From}
+use Rattle.readers_core.specs.Reading.{Reads, Takes}
 use Rattle.readers_core.specs.Reading.{Opens, opens-stopped, opens-blamed, opens-deep, opens-inside}
 use Rattle.readers_core.proofs.Holding.{held-token}
-use Rattle.readers_core.proofs.Sequence.{after, does-stays}
+use Rattle.readers_core.proofs.Sequence.{_▸_, after, does-stays, stopped-on}
+use Rattle.readers_core.proofs.Sharing.{at-home}
+use Rattle.readers_core.proofs.Views.{going-if, stopped-if}
+use Rattle.readers_core.proofs.Frames.{going}
 
 -- where the mark is read, a level was left
 pub level : {ks : List ℕ} {d k s s′ : ℕ} → Opens ks d k s s′ → view s′ .answer ≡ 0 → 0 < d
@@ -83,3 +89,31 @@ grouped {R} {k} {c} {p} {ks} {d} {start} {s} {s1} {hs} {w} {s2} (opens-inside z 
     deeper : {t : Table} {b : Plan} {f : Forest} {o : Outcome} →
         Runs t (kind-at ks) (suc (d - 1)) b (view s .at) f o → Runs t (kind-at ks) d b (view s .at) f o
     deeper {t} {b} {f} {o} r = subst (λ (l : ℕ). Runs t (kind-at ks) l b (view s .at) f o) (omega arith) r
+
+-- as readers are put together: the opening mark, the body at one level less, the closing mark
+module _ {R : Course} {k c : ℕ} {p : Plan} {ks : List ℕ} {d s t : ℕ} {w : List ℕ} (o : Opens ks d k s t) where
+  pub enclosed : {u v : ℕ} {w′ : List ℕ} → Reads R ks (d - 1) p (t, w) (u, w′) → Takes ks (token c) u v →
+      Reads R ks d (group k p c) (s, w) (v, w′)
+  enclosed {u} {v} {w′} body mark = record { in-any = λ start hs. go start hs (going (view t .answer)) }
+    where
+      rest : (start : ℕ) → From R ks (d - 1) start several (seq p (token c)) (t, w) (v, w′)
+      rest start = body .in-any start several ▸ mark .reads (d - 1) w′ .in-any start _
+
+      go : (start : ℕ) (hs : List ℕ) → (view t .answer ≡ 0) ⊎ (view t .answer ≡ 0 → ⊥) →
+          From R ks d start hs (group k p c) (s, w) (v, w′)
+      go start hs (inl z) = grouped o z (rest start)
+      go start hs (inr n) = stopped-on n (at-home (rest start) (view start, []) refl refl .stays n) (shut-out o n)
+
+  -- the same, where the levels left are told by another number
+  pub between : {l u v : ℕ} {w′ : List ℕ} → l ≡ d - 1 → Reads R ks l p (t, w) (u, w′) → Takes ks (token c) u v →
+      Reads R ks d (group k p c) (s, w) (v, w′)
+  between {u = u} {w′ = w′} e body = enclosed (subst (λ (n : ℕ). Reads R ks n p (t, w) (u, w′)) e body)
+
+  -- with a test behind the mark, the group stops at it
+  module _ {x : Bool} (e : x ≡ leb stop t) where
+    pub shut : x ≡ true → Reads R ks d (group k p c) (s, w) (t, w)
+    shut h = record { in-any = λ start hs. shut-out o (stopped-if t e h) }
+
+-- a level is left where the test behind the mark does not tell a stop
+pub room : {ks : List ℕ} {d k s t : ℕ} {x : Bool} → Opens ks d k s t → x ≡ leb stop t → x ≡ false → 0 < d
+room {t = t} o e h = level o (going-if t e h)

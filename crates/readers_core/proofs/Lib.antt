@@ -7,5 +7,11 @@ pub mod Sequence
 pub mod Lines
 pub mod Choosing
 pub mod Frames
+pub mod Parts
 pub mod Groups
 pub mod Repetition
+pub mod Lists
+pub mod Starts
+pub mod Loops
+pub mod Cycle
+pub mod Computing

@@ -4,10 +4,10 @@ use Prim.Native.Nat.{ℕ}
 use mathlib.Core.Bool.{Bool}
 use mathlib.Core.List.{List}
 use Rattle.grammar.specs.Forest.{Forest}
-use Rattle.prediction.specs.Plan.{Plan, token, group, call, wrap, seq, alt, skip, many}
-use Rattle.prediction.specs.Run.{Outcome, stopped, Runs, run-seq, run-seq-stop}
-use Rattle.prediction.specs.Renaming.{Inside, renamed}
-use Rattle.prediction.specs.Typing.{Table}
+use Rattle.prediction.specs.plans.Plan.{Plan, token, group, call, wrap, seq, alt, skip, many}
+use Rattle.prediction.specs.Interpreter.{Outcome, stopped, Runs, run-seq, run-seq-stop}
+use Rattle.prediction.specs.sharing.Renaming.{Inside, renamed}
+use Rattle.prediction.specs.validator.Typing.{Table}
 use Rattle.readers_core.specs.Course.{Course}
 use Rattle.readers_core.specs.Reading.{State, From}
 use Rattle.readers_core.proofs.Shapes.{leaves}

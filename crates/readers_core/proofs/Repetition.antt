@@ -11,14 +11,17 @@ use lib.ListN.{length, List·getD-eq-default}
 use Rattle.grammar.specs.Forest.{end}
 use Rattle.grammar.specs.Record.{shape}
 use Rattle.grammar.specs.Sets.{elem}
-use Rattle.prediction.specs.Sets.{and-both, and-left, and-right, decide, elem-eq, subset}
-use Rattle.prediction.specs.Plan.{Plan, token, many, seq, skip}
-use Rattle.prediction.specs.Renaming.{Inside, renamed}
-use Rattle.prediction.specs.Typing.{Table, null}
-use Rattle.prediction.specs.Look.{Look, look-nothing, look-some, look}
-use Rattle.prediction.specs.Run.{Outcome, done, blame, deep, Runs, sound}
-use Rattle.prediction.specs.Check.{all-typed}
-use Rattle.readers_core.specs.Course.{Course, table-in}
+use Rattle.prediction.proofs.Sets.{and-both, and-left, and-right, decide, elem-eq}
+use Rattle.prediction.specs.Sets.{subset}
+use Rattle.prediction.specs.plans.Plan.{Plan, token, many, seq, skip}
+use Rattle.prediction.specs.sharing.Renaming.{Inside, renamed}
+use Rattle.prediction.specs.validator.Typing.{Table, null}
+use Rattle.prediction.proofs.validator.Look.{Look, look-nothing, look-some, look}
+use Rattle.prediction.specs.Interpreter.{Outcome, done, blame, deep, Runs}
+use Rattle.prediction.proofs.correct.Sound.{sound}
+use Rattle.prediction.proofs.validator.Check.{all-typed}
+use Rattle.tables.specs.Tables.{token-width}
+use Rattle.readers_core.specs.Course.{Course, one, table-in}
 use Rattle.readers_core.specs.Reading.{kind-at, ahead, view, State, seen, Ends, ends-done, ends-blame}
 use Rattle.readers_core.specs.Reading.{ends-deep, From}
 use Rattle.readers_core.proofs.Sharing.{at-home}
@@ -94,12 +97,20 @@ far-over {s′ = s′} k e h u far = far .on s′ (λ hs. none-more k e h u skip
 abbrev pub remaining : List ℕ → ℕ → ℕ
 remaining ks s = cond (eqb (view s .answer) 0) (suc (length ks - view s .at)) 0
 
+-- what a loop that reads parts keeps: the length of the tree table, and the repetition so far in any frame; and what falls
+abbrev pub Turning : Plan → (tokens tree₀ : List ℕ) (s depth t₀ : ℕ) (tree : List ℕ) (t : ℕ) → Type 0
+Turning a tokens tree₀ s depth t₀ tree t =
+    (length tree ≡ length tree₀) × ((start : ℕ) → Far one tokens depth start a (s, tree₀) (t, tree))
+
+abbrev pub to-read : (tokens tree₀ : List ℕ) (s depth t₀ : ℕ) (tree : List ℕ) (t : ℕ) → ℕ
+to-read tokens tree₀ s depth t₀ tree t = remaining tokens t
+
 within : (ks : List ℕ) (i : ℕ) → (kind-at ks i ≡ 0 → ⊥) → i < length ks
-within ks i n = go (decide (ltb (3 * i) (length ks)))
+within ks i n = go (decide (ltb (token-width * i) (length ks)))
   where
-    go : T (ltb (3 * i) (length ks)) ⊎ T (not (ltb (3 * i) (length ks))) → i < length ks
-    go (inl u) = let h = ltb→lt (3 * i) (length ks) u in omega arith
-    go (inr u) = absurd (n (List·getD-eq-default ks 0 (nltb→le (3 * i) (length ks) u)))
+    go : T (ltb (token-width * i) (length ks)) ⊎ T (not (ltb (token-width * i) (length ks))) → i < length ks
+    go (inl u) = let h = ltb→lt (token-width * i) (length ks) u in omega arith
+    go (inr u) = absurd (n (List·getD-eq-default ks 0 (nltb→le (token-width * i) (length ks) u)))
 
 stopped-none : (m : ℕ) → (m ≡ 0 → ⊥) → (l : ℕ) → cond (eqb m 0) l 0 ≡ 0
 stopped-none m f l = pick (eqb m 0) (λ t. f (eqb→eq m 0 t))
@@ -206,6 +217,11 @@ pub begun-over : {R : Course} {ks : List ℕ} {d x start : ℕ} {a : Plan} {s s�
     Knows k x → T (is-over (table-in R) k a) → ((hs : List ℕ) → From R ks d start hs a s′ s″) → Begun R ks d start a s s′ →
     (hs : List ℕ) → From R ks d start hs (seq a (many a)) s s″
 begun-over {a = a} {s″ = s″} k e h u y begun = begun .on s″ (λ hs. y hs ▸ far-over k e h u far-here (leaves a hs))
+
+-- what a loop keeps that reads one part at least
+abbrev pub Beginning : Plan → (tokens tree₀ : List ℕ) (s depth t₀ : ℕ) (tree : List ℕ) (t : ℕ) → Type 0
+Beginning a tokens tree₀ s depth t₀ tree t =
+    (length tree ≡ length tree₀) × ((start : ℕ) → Begun one tokens depth start a (s, tree₀) (t, tree))
 
 in-itself : (k : ℕ) → T (subset (k ∷ []) (k ∷ []))
 unfolding subset

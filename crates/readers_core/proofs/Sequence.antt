@@ -9,12 +9,12 @@ use lib.Dec.{T}
 use Rattle.grammar.specs.Forest.{Forest, end, leaf, node, join}
 use Rattle.grammar.specs.Record.{tree-record, shape}
 use Rattle.grammar.specs.Sets.{elem}
-use Rattle.prediction.specs.Plan.{Plan, token, wrap, seq, call, skip}
-use Rattle.prediction.specs.Run.{Outcome, done, blame, deep, stopped, Runs, run-token, run-miss, run-call}
-use Rattle.prediction.specs.Run.{run-call-stop, run-wrap, run-seq, run-seq-stop, run-skip}
-use Rattle.prediction.specs.Renaming.{Inside, renamed}
+use Rattle.prediction.specs.plans.Plan.{Plan, token, wrap, seq, call, skip}
+use Rattle.prediction.specs.Interpreter.{Outcome, done, blame, deep, stopped, Runs, run-token, run-miss, run-call}
+use Rattle.prediction.specs.Interpreter.{run-call-stop, run-wrap, run-seq, run-seq-stop, run-skip}
+use Rattle.prediction.specs.sharing.Renaming.{Inside, renamed}
 use Rattle.readers_core.specs.Course.{Course, Shares, table-in}
-use Rattle.readers_core.specs.Reading.{kind-at, ceiling, write, view, State, Seen, Held, Ends, ends-done, ends-blame}
+use Rattle.readers_core.specs.Reading.{blaming, kind-at, ceiling, write, view, State, Seen, seen, Held, Ends, ends-done, ends-blame}
 use Rattle.readers_core.specs.Reading.{ends-deep, Ran, Stays, Does, From, all-recorded, none-recorded}
 use Rattle.readers_core.proofs.Holding.{held-none, held-token, held-lost, held-kept, held-full, held-call}
 use Rattle.readers_core.proofs.Shapes.{leaves, shapes, recorded-over, unrecorded-over}
@@ -31,6 +31,13 @@ unfolding stopped
 halted z e (ends-done u v k) = absurd z
 halted z e (ends-blame u v) = ends-blame (e .answers ∙ u) (e .places ∙ v)
 halted z e (ends-deep u v) = ends-deep (e .answers ∙ u) (e .places ∙ v)
+
+-- an end that is a stop stays
+ended : {C : Course} {b s s′ t : Seen} {f : Forest} {o : Outcome} → (s′ .0 .answer ≡ 0 → ⊥) → Stays s′ t → Ends C b f s s′ o →
+    Ends C b f s t o
+ended n e (ends-done u v k) = absurd (n u)
+ended n e (ends-blame u v) = ends-blame (e .answers ∙ u) (e .places ∙ v)
+ended n e (ends-deep u v) = ends-deep (e .answers ∙ u) (e .places ∙ v)
 
 pub unmoved : {s : Seen} → Stays s s
 unmoved = record { answers = refl; places = refl }
@@ -114,6 +121,16 @@ module _ {ks : List ℕ} {d : ℕ} where
         From R ks d start hs p s s
     stays n = record { does = λ m u b e e′. does-stays n unmoved }
 
+    -- what has stopped goes on having stopped there
+    pub stopped-on : {hs : List ℕ} {p : Plan} {start : ℕ} {s s′ s″ : State} → (view (s′ .0) .answer ≡ 0 → ⊥) →
+        Stays (seen s′) (seen s″) → From R ks d start hs p s s′ → From R ks d start hs p s s″
+    stopped-on n y x = record {
+      does = λ m u b e e′. let z = x .does m u b e e′ in record {
+        stays = λ v. let a = z .stays v in record { answers = y .answers ∙ a .answers; places = y .places ∙ a .places };
+        runs = λ v f h. let r = z .runs v f h in record { outcome = r .outcome; run = r .run; ends = ended n y (r .ends) };
+      };
+    }
+
     infixr 5 _▸_
     -- one plan after the other
     pub _▸_ : {hs : List ℕ} {a c : Plan} {start : ℕ} {s s′ s″ : State} → From R ks d start hs a s s′ →
@@ -148,7 +165,7 @@ module _ {ks : List ℕ} {d : ℕ} where
     }
 
     pub missed : {hs : List ℕ} {k start s s′ : ℕ} {w : List ℕ} → view s .answer ≡ 0 →
-        (kind-at ks (view s .at) ≡ k → ⊥) → view s′ .answer ≡ 7 → view s′ .at ≡ view s .at →
+        (kind-at ks (view s .at) ≡ k → ⊥) → view s′ .answer ≡ blaming → view s′ .at ≡ view s .at →
         From R ks d start hs (token k) (s, w) (s′, w)
     unfolding renamed
     missed {s = s} z e u v = record {

@@ -10,14 +10,16 @@ use Rattle.grammar.specs.Forest.{Forest, end, leaf, node, join}
 use Rattle.grammar.proofs.Forest.{join-end}
 use Rattle.grammar.specs.Record.{shape, recorded}
 use Rattle.grammar.specs.Sets.{elem}
-use Rattle.prediction.specs.Sets.{and-left, and-right, or-left, or-right, or-cases, subset, subset-in, elem-left, elem-right}
-use Rattle.prediction.specs.Sets.{eq→eqb}
-use Rattle.prediction.specs.Plan.{Plan, token, group, call, wrap, seq, alt, skip, many}
-use Rattle.prediction.specs.Run.{done, stopped, Runs, run-token, run-inside, run-group, run-call}
-use Rattle.prediction.specs.Run.{run-call-stop, run-wrap, run-seq, run-seq-stop, run-left, run-right}
-use Rattle.prediction.specs.Run.{run-skip, run-last, run-more, run-more-stop}
-use Rattle.prediction.specs.Check.{leaves-one, all-closed}
-use Rattle.prediction.specs.Renaming.{renamed}
+use Rattle.prediction.proofs.Sets.{and-left, and-right, or-left, or-right, or-cases, subset-in, elem-left, elem-right}
+use Rattle.prediction.proofs.Sets.{eq→eqb}
+use Rattle.prediction.specs.Sets.{subset}
+use Rattle.prediction.specs.plans.Plan.{Plan, token, group, call, wrap, seq, alt, skip, many}
+use Rattle.prediction.specs.Interpreter.{done, stopped, Runs, run-token, run-inside, run-group, run-call, run-call-stop}
+use Rattle.prediction.specs.Interpreter.{run-wrap, run-seq, run-seq-stop, run-left, run-right, run-skip, run-last}
+use Rattle.prediction.specs.Interpreter.{run-more, run-more-stop}
+use Rattle.prediction.specs.validator.Conditions.{leaves-one}
+use Rattle.prediction.proofs.validator.Check.{all-closed}
+use Rattle.prediction.specs.sharing.Renaming.{renamed}
 use Rattle.readers_core.specs.Course.{Course, Shares, table-in}
 use Rattle.readers_core.specs.Reading.{all-recorded, none-recorded}
 use Rattle.readers_core.proofs.Sharing.{recorded-shared}

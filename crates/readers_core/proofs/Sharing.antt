@@ -7,13 +7,13 @@ use mathlib.Core.List.{List}
 use lib.Dec.{T}
 use Rattle.grammar.specs.Record.{recorded}
 use Rattle.grammar.proofs.Sets.{and-left, and-right}
-use Rattle.prediction.specs.Plan.{Plan}
-use Rattle.prediction.specs.Renaming.{Inside, renamed, any-rule, as-it-is, all-inside, renamed-same, in-both}
-use Rattle.prediction.specs.Renaming.{inside-both, renamed-twice}
-use Rattle.prediction.proofs.Renaming.{null-renamed, first-renamed, nulls-same, firsts-same}
-use Rattle.prediction.specs.Typing.{null, first}
-use Rattle.prediction.specs.Columns.{round}
-use Rattle.prediction.specs.Check.{plans-of, rounds, table}
+use Rattle.prediction.specs.plans.Plan.{Plan}
+use Rattle.prediction.specs.sharing.Renaming.{Inside, renamed, any-rule, as-it-is}
+use Rattle.prediction.proofs.sharing.Renaming.{all-inside, renamed-same, in-both, inside-both, renamed-twice}
+use Rattle.prediction.proofs.sharing.Renaming.{null-renamed, first-renamed, nulls-same, firsts-same}
+use Rattle.prediction.specs.validator.Typing.{null, first}
+use Rattle.prediction.specs.validator.Fixpoint.{round}
+use Rattle.prediction.specs.validator.Check.{plans-of, rounds, table}
 use Rattle.readers_core.specs.Course.{Course, Shares, table-in}
 use Rattle.readers_core.specs.Reading.{view, State, Seen, seen, Does, From}
 

@@ -10,7 +10,7 @@ use mathlib.Core.Logic.{_⊎_, inl, inr}
 use lib.Dec.{T, ltb, leb, leb→le, nleb→lt, lt→ltb, ltb→lt}
 use lib.ListN.{length}
 use Rattle.grammar.specs.Record.{TreeRecord, tree-record}
-use Rattle.prediction.specs.Sets.{decide}
+use Rattle.prediction.proofs.Sets.{decide}
 use Rattle.tables.specs.Tables.{node-width, put}
 use Rattle.readers_core.specs.Reading.{ceiling, counted, write, writes}
 

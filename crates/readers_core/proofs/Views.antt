@@ -6,7 +6,8 @@ use mathlib.Core.Path.{_≡_, refl, sym, _∙_, subst}
 use mathlib.Core.Bool.{Bool, true, false, not, cond}
 use lib.Dec.{T, eqb, leb, leb→le, nleb→lt}
 use borrow.Author.Tests.{eq-eqb, ne-eqb, lt-ltb, le-ltb}
-use Rattle.readers_core.specs.Reading.{half, stop, step, deep-rest, blamed, too-deep, view, ceiling}
+use Rattle.tables.specs.Tables.{token-width}
+use Rattle.readers_core.specs.Reading.{blaming, sunk, half, stop, step, deep-rest, blamed, too-deep, view, ceiling}
 
 pub goes-on : (s : ℕ) → s < stop → view s .answer ≡ 0
 goes-on s h = rw (lt-ltb s stop h) refl
@@ -15,7 +16,7 @@ pub going-at : (s : ℕ) → s < stop → view s .at ≡ s % half
 going-at s h = rw (lt-ltb s stop h) refl
 
 -- what a stop answers, and where it stands
-stop-answers : (s : ℕ) → stop ≤ s → view s .answer ≡ cond (eqb (s % step) deep-rest) 8 7
+stop-answers : (s : ℕ) → stop ≤ s → view s .answer ≡ cond (eqb (s % step) deep-rest) sunk blaming
 stop-answers s h = rw (le-ltb s stop h) refl
 
 pub stop-at : (s : ℕ) → stop ≤ s → view s .at ≡ (s - stop) / step
@@ -24,7 +25,7 @@ stop-at s h = rw (le-ltb s stop h) refl
 pub has-stopped : (s : ℕ) → stop ≤ s → view s .answer ≡ 0 → ⊥
 has-stopped s h e = go (eqb (s % step) deep-rest) (sym (stop-answers s h) ∙ e)
   where
-    go : (x : Bool) → _≡_ {A = ℕ} (cond x 8 7) 0 → ⊥
+    go : (x : Bool) → _≡_ {A = ℕ} (cond x sunk blaming) 0 → ⊥
     go true u = omega (arith, u)
     go false u = omega (arith, u)
 
@@ -36,22 +37,22 @@ pub going-if : (s : ℕ) {x : Bool} → x ≡ leb stop s → x ≡ false → vie
 going-if s e h = goes-on s (nleb→lt stop s (subst (λ (b : Bool). T (not b)) (sym h ∙ e) tt))
 
 -- as the test `is_too_deep` tells
-pub deep-if : (s : ℕ) → stop ≤ s → eqb (s % step) deep-rest ≡ eqb (view s .answer) 8
+pub deep-if : (s : ℕ) → stop ≤ s → eqb (s % step) deep-rest ≡ eqb (view s .answer) sunk
 deep-if s h = rw (stop-answers s h) (go (eqb (s % step) deep-rest))
   where
-    go : (x : Bool) → x ≡ eqb (cond x 8 7) 8
+    go : (x : Bool) → x ≡ eqb (cond x sunk blaming) sunk
     go true = refl
     go false = refl
 
 -- a token is blamed, or lies too deep
-stops-blamed : (s : ℕ) → stop ≤ s → (s % step ≡ deep-rest → ⊥) → view s .answer ≡ 7
+stops-blamed : (s : ℕ) → stop ≤ s → (s % step ≡ deep-rest → ⊥) → view s .answer ≡ blaming
 stops-blamed s h n = rw (le-ltb s stop h, ne-eqb (s % step) deep-rest n) refl
 
 module _ (s : ℕ) where
-  pub blames : view (s % half * step + blamed) .answer ≡ 7
+  pub blames : view (s % half * step + blamed) .answer ≡ blaming
   blames = stops-blamed (s % half * step + blamed) (omega arith) (λ e. omega (arith, e))
 
-  pub sinks : view (s % half * step + too-deep) .answer ≡ 8
+  pub sinks : view (s % half * step + too-deep) .answer ≡ sunk
   sinks =
       rw (
         le-ltb (s % half * step + too-deep) stop (omega arith),
@@ -65,7 +66,7 @@ module _ (s : ℕ) where
   sinks-there h = stop-at (s % half * step + too-deep) (omega arith) ∙ omega (arith, going-at s h)
 
 -- a token is taken
-module _ (s : ℕ) (low : s < stop) (fits : 3 * (s % half) < 2 ^ 32) where
+module _ (s : ℕ) (low : s < stop) (fits : token-width * (s % half) < half) where
   below : s + 1 < stop
   below = omega (arith, low, fits)
 
@@ -79,7 +80,7 @@ module _ (s : ℕ) (low : s < stop) (fits : 3 * (s % half) < 2 ^ 32) where
   onward-count = omega (arith, low, fits)
 
 -- a stop stays also where a token is found at its low half, which no reader makes
-module _ (s : ℕ) (high : stop ≤ s) (fits : 3 * (s % half) < 2 ^ 32) where
+module _ (s : ℕ) (high : stop ≤ s) (fits : token-width * (s % half) < half) where
   pub onward-answers : view (s + 1) .answer ≡ view s .answer
   onward-answers =
       stops-blamed (s + 1) (omega (arith, high)) (λ e. omega (arith, e, fits))

@@ -10,10 +10,10 @@ use Rattle.grammar.specs.Idl.{idl}
 use Rattle.grammar.specs.Record.{TreeRecord, tree-record, records}
 use Rattle.grammar.specs.Rule.{Edition}
 use Rattle.grammar.specs.Sets.{elem}
-use Rattle.prediction.specs.Renaming.{Inside, renamed, as-it-is}
-use Rattle.prediction.specs.Typing.{Table}
-use Rattle.prediction.specs.Check.{Checked, table-of}
-use Rattle.prediction.proofs.IdlChecked.{idl-checked}
+use Rattle.prediction.specs.sharing.Renaming.{Inside, renamed, as-it-is}
+use Rattle.prediction.specs.validator.Typing.{Table}
+use Rattle.prediction.specs.validator.Check.{Checked, table-of}
+use Rattle.prediction.proofs.theorems.IdlChecked.{idl-checked}
 
 -- an edition that passes its test; readers write `code r` for its rule r
 pub record Course : Type 0 where

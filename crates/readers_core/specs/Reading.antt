@@ -10,21 +10,31 @@ use Rattle.grammar.specs.Forest.{Forest, width}
 use Rattle.grammar.specs.Idl.{idl}
 use Rattle.grammar.specs.Record.{TreeRecord, tree-record, shape, recorded}
 use Rattle.grammar.specs.Sets.{elem}
-use Rattle.prediction.specs.Plan.{Plan, call, wrap}
-use Rattle.prediction.specs.Renaming.{Inside, renamed}
-use Rattle.prediction.specs.Run.{Outcome, done, blame, deep, Runs}
+use Rattle.prediction.specs.plans.Plan.{Plan, call, wrap}
+use Rattle.prediction.specs.sharing.Renaming.{Inside, renamed}
+use Rattle.prediction.specs.Interpreter.{Outcome, done, blame, deep, Runs}
 use Rattle.readers_core.specs.Course.{Course, Shares, table-in, noted}
-use Rattle.tables.specs.Tables.{token-width, node-width, put}
+use Rattle.tables.specs.Tables.{token-width, node-width, number-end, put}
 
 -- the kind of token i of a token table, 0 past its end
 abbrev pub kind-at : List ℕ → ℕ → ℕ
 kind-at tokens i = getD tokens (token-width * i) 0
 
--- a token table whose places fit 32 bits
-abbrev pub Short : List ℕ → Type 0
-Short tokens = length tokens < 2 ^ 32
+-- a kind of token: 0 stands for the end
+abbrev pub IsKind : ℕ → Type 0
+IsKind k = 0 < k
 
--- where a reader stands: going on (0), blaming (7) or too deep (8); the next token; the tree records so far
+-- what a reader has come to: it goes on, it blames a token, or one lies too deep; the last two are the numbers of the replies
+abbrev pub going : ℕ
+going = 0
+
+abbrev pub blaming : ℕ
+blaming = 7
+
+abbrev pub sunk : ℕ
+sunk = 8
+
+-- where it stands: what it has come to, the next token, the tree records so far
 pub record Reading : Type 0 where
   pub answer : ℕ
   pub at : ℕ
@@ -33,16 +43,16 @@ pub record Reading : Type 0 where
 -- the same in one number: the next token in its low half, the records in its high half; from 2 ^ 63 on a stop, with 2 ^ 31
 -- times its token, and a rest that tells the one for depth
 abbrev pub half : ℕ
-half = 4294967296
+half = number-end
 
 abbrev pub stop : ℕ
-stop = 9223372036854775808
+stop = 2 ^ 63
 
 abbrev pub step : ℕ
-step = 2147483648
+step = 2 ^ 31
 
 abbrev pub deep-rest : ℕ
-deep-rest = 2147483646
+deep-rest = step - 2
 
 -- a stop at token 0
 abbrev pub blamed : ℕ
@@ -51,20 +61,24 @@ blamed = stop + (step - 1)
 abbrev pub too-deep : ℕ
 too-deep = stop + deep-rest
 
+-- a token table whose places fit 32 bits
+abbrev pub Addressable : List ℕ → Type 0
+Addressable tokens = length tokens < half
+
 abbrev pub view : ℕ → Reading
 view s = record {
-  answer = cond (ltb s stop) 0 (cond (eqb (s % step) deep-rest) 8 7);
+  answer = cond (ltb s stop) going (cond (eqb (s % step) deep-rest) sunk blaming);
   at = cond (ltb s stop) (s % half) ((s - stop) / step);
   count = s / half;
 }
 
 -- the kind of the next token, 0 at the end and where reading has stopped
 abbrev pub ahead : List ℕ → ℕ → ℕ
-ahead tokens s = cond (eqb (view s .answer) 0) (kind-at tokens (view s .at)) 0
+ahead tokens s = cond (eqb (view s .answer) going) (kind-at tokens (view s .at)) 0
 
 -- a count of records stays where it fills its part
 abbrev pub ceiling : ℕ
-ceiling = 2147483647
+ceiling = step - 1
 
 abbrev pub counted : ℕ → ℕ
 counted n = min n ceiling
@@ -89,6 +103,18 @@ Seen = Reading × List ℕ
 abbrev pub seen : State → Seen
 seen s = (view (s .0), s .1)
 
+-- What reading by a plan is, from the inside out:
+--   Held    what the frame of a rule has read: where it stands, and the records that are counted and written
+--   Ends    how a run of a plan ends: with what was read held, with blame, or too deep
+--   Ran     a run of the plan and its end
+--   Does    whatever the state: a stop stays, and else the plan runs
+--   From    so in each course that shares the rules, in the frame that began at `start` with one of the shapes before
+--   Within  From, whatever the shapes before
+--   Reads   Within, in any frame
+--   Flat, FlatWithin, FlatFrom    the same, whatever the depth left
+--   FlatFollows                   Flat, of whichever rule has a given plan
+--   Takes, Opens, Closes          what readers are made of: tokens, opening marks, nodes
+
 -- a stop stays: its answer and its place
 pub record Stays (s s′ : Seen) : Type 0 where
   pub answers : s′ .0 .answer ≡ s .0 .answer
@@ -104,10 +130,10 @@ module _ (C : Course) where
 
   -- how a run from s, in the frame that began in state b and has read f, ends in s′
   pub data Ends (b : Seen) (f : Forest) (s s′ : Seen) : Outcome → Type 0 where
-    ends-done : {j : ℕ} {g : Forest} → s′ .0 .answer ≡ 0 → s′ .0 .at ≡ j → (Held b f s → Held b g s′) →
+    ends-done : {j : ℕ} {g : Forest} → s′ .0 .answer ≡ going → s′ .0 .at ≡ j → (Held b f s → Held b g s′) →
         Ends b f s s′ (done j g)
-    ends-blame : {q : ℕ} → s′ .0 .answer ≡ 7 → s′ .0 .at ≡ q → Ends b f s s′ (blame q)
-    ends-deep : {q : ℕ} → s′ .0 .answer ≡ 8 → s′ .0 .at ≡ q → Ends b f s s′ (deep q)
+    ends-blame : {q : ℕ} → s′ .0 .answer ≡ blaming → s′ .0 .at ≡ q → Ends b f s s′ (blame q)
+    ends-deep : {q : ℕ} → s′ .0 .answer ≡ sunk → s′ .0 .at ≡ q → Ends b f s s′ (deep q)
 
   pub record Ran (ks : List ℕ) (d : ℕ) (p : Plan) (b : Seen) (f : Forest) (s s′ : Seen) : Type 0 where
     pub outcome : Outcome
@@ -117,8 +143,8 @@ module _ (C : Course) where
   -- reading by plan p, on the token table ks with d levels of depth left, in the frame that began in state b and has read
   -- a forest of one of the shapes hs
   pub record Does (ks : List ℕ) (d : ℕ) (hs : List ℕ) (p : Plan) (b s s′ : Seen) : Type 0 where
-    pub stays : (s .0 .answer ≡ 0 → ⊥) → Stays s s′
-    pub runs : s .0 .answer ≡ 0 → (f : Forest) → T (elem (shape f) hs) → Ran ks d p b f s s′
+    pub stays : (s .0 .answer ≡ going → ⊥) → Stays s s′
+    pub runs : s .0 .answer ≡ going → (f : Forest) → T (elem (shape f) hs) → Ran ks d p b f s s′
 
 -- by the plans of the course R, in each course that shares the rules which they name
 module _ (R : Course) where
@@ -146,10 +172,6 @@ module _ (R : Course) where
   -- with one of the shapes hs before, whatever the depth
   pub record FlatFrom (ks : List ℕ) (start : ℕ) (hs : List ℕ) (p : Plan) (s s′ : State) : Type 0 where
     pub at-any : (d : ℕ) → From ks d start hs p s s′
-
-  -- rule n, where its plan is p
-  pub record Follows (ks : List ℕ) (d n : ℕ) (p : Plan) (s s′ : State) : Type 0 where
-    pub reads : table-in R .plan n ≡ p → Reads ks d (call n) s s′
 
   -- a use of rule r is recorded over each of these shapes; over none of them: tests that compute in edition 1
   unfoldable pub all-recorded : ℕ → List ℕ → Bool
@@ -184,10 +206,10 @@ pub record FlatFollows (ks : List ℕ) (n : ℕ) (p : ℕ → Plan) (s s′ : St
 
 -- an opening mark k, with d levels of depth left
 pub data Opens (ks : List ℕ) (d k : ℕ) (s s′ : ℕ) : Type 0 where
-  opens-stopped : (view s .answer ≡ 0 → ⊥) → view s′ .answer ≡ view s .answer → view s′ .at ≡ view s .at → Opens ks d k s s′
-  opens-blamed : view s .answer ≡ 0 → (kind-at ks (view s .at) ≡ k → ⊥) → view s′ .answer ≡ 7 →
+  opens-stopped : (view s .answer ≡ going → ⊥) → view s′ .answer ≡ view s .answer → view s′ .at ≡ view s .at → Opens ks d k s s′
+  opens-blamed : view s .answer ≡ going → (kind-at ks (view s .at) ≡ k → ⊥) → view s′ .answer ≡ blaming →
       view s′ .at ≡ view s .at → Opens ks d k s s′
-  opens-deep : view s .answer ≡ 0 → kind-at ks (view s .at) ≡ k → d ≡ 0 → view s′ .answer ≡ 8 →
+  opens-deep : view s .answer ≡ going → kind-at ks (view s .at) ≡ k → d ≡ 0 → view s′ .answer ≡ sunk →
       view s′ .at ≡ view s .at → Opens ks d k s s′
-  opens-inside : view s .answer ≡ 0 → kind-at ks (view s .at) ≡ k → 0 < d → view s′ .answer ≡ 0 →
+  opens-inside : view s .answer ≡ going → kind-at ks (view s .at) ≡ k → 0 < d → view s′ .answer ≡ going →
       view s′ .at ≡ view s .at + 1 → view s′ .count ≡ view s .count → Opens ks d k s s′

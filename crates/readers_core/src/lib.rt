@@ -4,11 +4,9 @@
 // A reader's contract names the course whose plans it follows, `one` for edition 1, and holds in every course that shares the rules.
 ghost use mathlib.Core.Path.{_≡_};
 ghost use lib.Dec.{eqb, leb};
-ghost use Prim.Native.Nat.{_<_, _%_};
-ghost use Rattle.prediction.specs.Plan.{token};
-ghost use Rattle.readers_core.specs.Reading.{kind-at, ahead, half, stop, Short, view, Takes, Opens, Closes};
-
-pub mod kind;
+ghost use Prim.Native.Nat.{_%_, _-_};
+ghost use Rattle.prediction.specs.plans.Plan.{token};
+ghost use Rattle.readers_core.specs.Reading.{IsKind, kind-at, ahead, half, stop, sunk, Addressable, view, Takes, Opens, Closes};
 
 // Where a reader stands, in one number that travels in a register. Its low half is the number of the next token; its high
 // half counts the tree records so far. From 2^63 on it tells that reading has stopped: it holds 2^31 times the token at which
@@ -16,14 +14,14 @@ pub mod kind;
 // number of any token in a table, so that none is found there.
 pub type Reading = u64;
 
-const HALF: u64 = 4294967296;
+const HALF: u64 = 1 << 32;
 
-const STOP: u64 = 9223372036854775808;
+const STOP: u64 = 1 << 63;
 
-const STEP: u64 = 2147483648;
+const STEP: u64 = 1 << 31;
 
 // The rest of a stop for depth.
-const DEEP: u64 = 2147483646;
+const DEEP: u64 = STEP - 2;
 
 // A stop at token 0.
 const BLAMED: u64 = STOP + (STEP - 1);
@@ -31,42 +29,42 @@ const BLAMED: u64 = STOP + (STEP - 1);
 const TOO_DEEP: u64 = STOP + DEEP;
 
 // The low half.
-fn low(s: Reading) -> u32
-    ensures { λ r. ⌜ r ≡ s % half ⌝ }
+fn low(state: Reading) -> u32
+    ensures { λ r. ⌜ r ≡ state % half ⌝ }
 {
-    (s % HALF) as u32
+    (state % HALF) as u32
 }
 
 // The number of the next token, or of the one at which reading has stopped.
-pub fn place(s: Reading) -> u32
-    ensures { λ r. ⌜ r ≡ view s .at ⌝ }
+pub fn place(state: Reading) -> u32
+    ensures { λ r. ⌜ r ≡ view state .at ⌝ }
 {
-    if STOP <= s {
-        return ((s - STOP) / STEP) as u32;
+    if STOP <= state {
+        return ((state - STOP) / STEP) as u32;
     }
-    low(s)
+    low(state)
 }
 
 // The tree records so far, where reading goes on.
-pub fn records(s: Reading) -> u32
-    ensures { λ r. ⌜ r ≡ view s .count ⌝ }
+pub fn records(state: Reading) -> u32
+    ensures { λ r. ⌜ r ≡ view state .count ⌝ }
 {
-    (s / HALF) as u32
+    (state / HALF) as u32
 }
 
 // Whether reading has stopped.
-pub fn has_stopped(s: Reading) -> bool
-    ensures { λ r. ⌜ r ≡ leb stop s ⌝ }
+pub fn has_stopped(state: Reading) -> bool
+    ensures { λ r. ⌜ r ≡ leb stop state ⌝ }
 {
-    STOP <= s
+    STOP <= state
 }
 
 // Whether it has stopped at a token that lies too deep.
-pub fn is_too_deep(s: Reading) -> bool
-    ensures { λ r. ⌜ r ≡ eqb (view s .answer) 8 ⌝ }
+pub fn is_too_deep(state: Reading) -> bool
+    ensures { λ r. ⌜ r ≡ eqb (view state .answer) sunk ⌝ }
 {
-    if STOP <= s {
-        return s % STEP == DEEP;
+    if STOP <= state {
+        return state % STEP == DEEP;
     }
     false
 }
@@ -75,7 +73,7 @@ pub fn is_too_deep(s: Reading) -> bool
 pub fn kind_at(tokens: &[u32], i: u32) -> u32
     ensures { λ r. ⌜ r ≡ kind-at (now (tokens .entry)) i ⌝ }
 {
-    let place = 3 * (i as usize);
+    let place = tables::TOKEN_WIDTH * (i as usize);
     if place < tokens.len() {
         tokens[place]
     } else {
@@ -84,65 +82,75 @@ pub fn kind_at(tokens: &[u32], i: u32) -> u32
 }
 
 // The kind of the next token; 0 at the end and where reading has stopped.
-pub fn next_kind(tokens: &[u32], s: Reading) -> u32
-    ensures { λ r. ⌜ r ≡ ahead (now (tokens .entry)) s ⌝ }
+pub fn next_kind(tokens: &[u32], state: Reading) -> u32
+    ensures { λ r. ⌜ r ≡ ahead (now (tokens .entry)) state ⌝ }
 {
-    if STOP <= s {
+    if STOP <= state {
         return 0;
     }
-    kind_at(tokens, low(s))
+    kind_at(tokens, low(state))
 }
 
 // Reads a token of the kind.
-pub fn take(tokens: &[u32], s: Reading, kind: u32) -> Reading
-    requires { ⌜ Short (now tokens) × (0 < kind) ⌝ }
-    ensures { λ r. ⌜ Takes (now (tokens .entry)) (token kind) s r ⌝ }
+pub fn take(tokens: &[u32], state: Reading, kind: u32) -> Reading
+    requires { ⌜ Addressable (now tokens) × IsKind kind ⌝ }
+    ensures { λ r. ⌜ Takes (now (tokens .entry)) (token kind) state r ⌝ }
 {
-    let found = kind_at(tokens, low(s));
+    let found = kind_at(tokens, low(state));
     if found == kind {
-        return s + 1;
+        return state + 1;
     }
-    if STOP <= s {
-        return s;
+    if STOP <= state {
+        return state;
     }
-    s % HALF * STEP + BLAMED
+    state % HALF * STEP + BLAMED
 }
 
 // Reads an opening mark, where a level of depth is left.
-pub fn open(tokens: &[u32], s: Reading, mark: u32, depth: u32) -> Reading
-    requires { ⌜ Short (now tokens) × (0 < mark) ⌝ }
-    ensures { λ r. ⌜ Opens (now (tokens .entry)) depth mark s r ⌝ }
+pub fn open(tokens: &[u32], state: Reading, mark: u32, depth: u32) -> Reading
+    requires { ⌜ Addressable (now tokens) × IsKind mark ⌝ }
+    ensures { λ r. ⌜ Opens (now (tokens .entry)) depth mark state r ⌝ }
 {
-    let found = kind_at(tokens, low(s));
+    let found = kind_at(tokens, low(state));
     if found == mark {
         if 0 < depth {
-            return s + 1;
+            return state + 1;
         }
         // The contract is about any number, also about one that no reader makes.
-        if STOP <= s {
-            return s;
+        if STOP <= state {
+            return state;
         }
-        return s % HALF * STEP + TOO_DEEP;
+        return state % HALF * STEP + TOO_DEEP;
     }
-    if STOP <= s {
-        return s;
+    if STOP <= state {
+        return state;
     }
-    s % HALF * STEP + BLAMED
+    state % HALF * STEP + BLAMED
+}
+
+// The levels of depth that are left behind an opening mark.
+pub fn inner(depth: u32) -> u32
+    ensures { λ r. ⌜ r ≡ depth - 1 ⌝ }
+{
+    if depth == 0 {
+        return 0;
+    }
+    depth - 1
 }
 
 // What has been read since `start` becomes one node of the rule, which is recorded. The count has its ceiling below a stop.
-pub fn node(tree: &mut [u32], start: Reading, s: Reading, rule: u32) -> Reading
-    ensures { λ r. ⌜ Closes rule start (s, now (tree .entry)) (r, now (tree .exit)) ⌝ }
+pub fn node(tree: &mut [u32], start: Reading, state: Reading, rule: u32) -> Reading
+    ensures { λ r. ⌜ Closes rule start (state, now (tree .entry)) (r, now (tree .exit)) ⌝ }
 {
-    if STOP <= s {
-        return s;
+    if STOP <= state {
+        return state;
     }
-    let t = s + HALF;
-    if STOP <= t {
-        return s;
+    let counted = state + HALF;
+    if STOP <= counted {
+        return state;
     }
-    let n = records(s);
-    let size = records(std::num::wrapping_sub_u64(t, start));
-    tables::put_node(tree, n as usize, rule, low(start), low(s), size);
-    t
+    let place = records(state);
+    let size = records(std::num::wrapping_sub_u64(counted, start));
+    tables::put_node(tree, place as usize, rule, low(start), low(state), size);
+    counted
 }

@@ -1,5 +1,6 @@
 -- Operators between operands, by precedence climbing: how what was read since a state stands to the rules of the levels.
 -- A rule of a level is its operand alone where no operator of the level is next, so it may be taken down. Assumes nothing.
+use Rattle.readers_core.proofs.Computing.{computing}
 use Prim.Native.Nat.{ℕ, zero, suc, _+_, _-_, _≤_, _<_}
 use native.Mathlib.Omega.{arith}
 use mathlib.Core.Path.{_≡_, refl, ap, sym, _∙_, subst}
@@ -8,19 +9,19 @@ use mathlib.Core.Logic.{_⊎_, inl, inr}
 use Rattle.grammar.specs.Forest.{end, leaf}
 use Rattle.grammar.specs.Record.{shape}
 use Rattle.grammar.specs.Sets.{elem}
-use Rattle.prediction.specs.Plan.{token, call, wrap}
-use Rattle.prediction.specs.Run.{Outcome, Runs, run-wrap}
+use Rattle.prediction.specs.plans.Plan.{token, call, wrap}
+use Rattle.prediction.specs.Interpreter.{Outcome, Runs, run-wrap}
 use Rattle.readers_core.specs.Course.{one, table-in}
 use Rattle.readers_core.specs.Reading.{kind-at, ahead, view, State, seen, Ends, ends-done, From, nothing, several, Reads}
-use Rattle.readers_core.specs.Reading.{Takes, Closes, none-recorded}
-use Rattle.readers_core.proofs.Choosing.{Knows, among, except, any-elem, elem-any}
+use Rattle.readers_core.specs.Reading.{Takes, Closes}
+use Rattle.readers_core.proofs.Choosing.{among, except, any-elem, elem-any}
 use Rattle.readers_core.proofs.Frames.{ahead-kind, ahead-none, frame-by, going}
 use Rattle.readers_core.proofs.Repetition.{Far, far-here, far-more, far-over, falls, remaining}
 use Rattle.readers_core.proofs.Sequence.{_▸_, unrecorded}
 use Rattle.readers_core.proofs.Sharing.{at-home}
-use Rattle.readers_core.proofs.Shapes.{leaves}
-use Rattle.readers_expressions.specs.Levels.{operators, further-operand, level-of}
-use Rattle.readers_expressions.proofs.Operations.{Level, at-level, apart, of-level, Found, leveled, operated}
+use Rattle.readers_core.proofs.Frames.{coming}
+use Rattle.readers_expressions.specs.Levels.{loosest, tightest, operand, operators, further-operand, level-of}
+use Rattle.readers_expressions.proofs.Operations.{Level, at-level, apart, of-level, operates, Found, leveled}
 
 -- in the repetition of level l: its first operand was read from s, and further ones up to t
 pub record Open (ks : List ℕ) (d l : ℕ) (s t : State) : Type 0 where
@@ -38,8 +39,9 @@ module _ {ks : List ℕ} {d : ℕ} {s t : State} where
   lower : (l : ℕ) → Reads one ks d (call (l + 1)) s t → Open ks d l s t
   lower l r = record { first = t; operand = r; far = far-here }
 
-  shut : (l : ℕ) → 30 ≤ l → l ≤ 35 → (level-of (ahead ks (t .0)) ≡ l → ⊥) → Open ks d l s t → Reads one ks d (call l) s t
-  unfolding Knows leaves none-recorded
+  shut : (l : ℕ) → loosest ≤ l → l ≤ tightest → (level-of (ahead ks (t .0)) ≡ l → ⊥) → Open ks d l s t →
+      Reads one ks d (call l) s t
+  unfolding computing
   shut l low high n o =
       let v = at-level l low high in
       frame-by l (v .plan) (o .operand .in-any (s .0) nothing ▸ unrecorded (v .alone) ▸
@@ -48,7 +50,7 @@ module _ {ks : List ℕ} {d : ℕ} {s t : State} where
       (1 ∷ []))
 
   -- from level m down to level l, k levels below
-  down : (k l m : ℕ) → m ≡ l + k → 30 ≤ l → m ≤ 36 → level-of (ahead ks (t .0)) < l → Reads one ks d (call m) s t →
+  down : (k l m : ℕ) → m ≡ l + k → loosest ≤ l → m ≤ operand → level-of (ahead ks (t .0)) < l → Reads one ks d (call m) s t →
       Reads one ks d (call l) s t
   down zero l m e low high h r = subst (λ (n : ℕ). Reads one ks d (call n) s t) (omega arith) r
   down (suc k) l m e low high h r =
@@ -56,7 +58,7 @@ module _ {ks : List ℕ} {d : ℕ} {s t : State} where
       (lower l (down k (l + 1) m (omega arith) (omega arith) high (omega (arith, h)) r))
 
   -- a rule of a level is read, and the next operator is looser
-  pub settled : (level m : ℕ) → 30 ≤ level → level ≤ m → m ≤ 36 → level-of (ahead ks (t .0)) < m →
+  pub settled : (level m : ℕ) → loosest ≤ level → level ≤ m → m ≤ operand → level-of (ahead ks (t .0)) < m →
       Reads one ks d (call m) s t → Ready ks d level s t
   settled level m low le high h r = record {
     on = λ {x} {k} e e′ u. let n = e′ ∙ ap level-of e in
@@ -66,7 +68,7 @@ module _ {ks : List ℕ} {d : ℕ} {s t : State} where
   }
 
   -- a level is open, and the next operator is not tighter
-  turned : (level k : ℕ) → 30 ≤ level → level ≤ k → k ≤ 35 → level-of (ahead ks (t .0)) < k + 1 →
+  turned : (level k : ℕ) → loosest ≤ level → level ≤ k → k ≤ tightest → level-of (ahead ks (t .0)) < k + 1 →
       Open ks d k s t → Ready ks d level s t
   turned level k low le high h o = go (apart (level-of (ahead ks (t .0))) k)
     where
@@ -95,7 +97,7 @@ same-ahead ks {r} {start} {s} {s′} x = go (going (view (s .0) .answer))
         sym (ahead-none ks (s′ .0) (λ e. n (sym (y .answers) ∙ e))) ∙ ahead-none ks (s .0) n
 
 -- one turn: an operator x of level k, its right operand, and the node of all since `start`
-module _ {ks : List ℕ} {d k x start t m o u : ℕ} {w w′ w″ : List ℕ} (low : 30 ≤ k) (e : x ≡ ahead ks t)
+module _ {ks : List ℕ} {d k x start t m o u : ℕ} {w w′ w″ : List ℕ} (low : loosest ≤ k) (e : x ≡ ahead ks t)
     (e′ : k ≡ level-of x) (takes : Takes ks (token x) t m) (reads : Reads one ks d (call (k + 1)) (m, w) (o, w′))
     (closes : Closes k start (o, w′) (u, w″)) where
   its : Found k x
@@ -105,18 +107,18 @@ module _ {ks : List ℕ} {d k x start t m o u : ℕ} {w w′ w″ : List ℕ} (l
   at = at-level k low (its .high)
 
   turn : (hs : List ℕ) → From one ks d start hs (further-operand k) (t, w) (u, w″)
-  unfolding further-operand leaves
+  unfolding computing
   turn hs =
-      operated (operators k) e (its .has) (takes .reads d w .in-any start hs ▸ reads .in-any start _) ▸
-      closes .wraps refl ks d _ (at .joined hs)
+      coming (among (x ∷ [])) e refl (operates x at (its .has))
+      ((takes .reads d w .in-any start hs ▸ reads .in-any start _) ▸ closes .wraps refl ks d _ (at .together))
 
   pub less : remaining ks u < remaining ks t
-  unfolding Knows
+  unfolding computing
   less = falls (among (operators k)) e (elem-any (operators k) x (its .has)) (at .goes-on) turn
 
-  pub climbed : {w₀ : List ℕ} (level : ℕ) → 30 ≤ level → level ≤ k → level-of (ahead ks o) < k + 1 →
+  pub climbed : {w₀ : List ℕ} (level : ℕ) → loosest ≤ level → level ≤ k → level-of (ahead ks o) < k + 1 →
       Ready ks d level (start, w₀) (t, w) → Ready ks d level (start, w₀) (u, w″)
-  unfolding Knows
+  unfolding computing
   climbed level above le looser r =
       let before = r .on e e′ le in
       let same = ap level-of (same-ahead ks (closes .wraps refl ks 0 several (at .together))) in

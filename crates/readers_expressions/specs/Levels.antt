@@ -1,20 +1,34 @@
--- The operators, rule 37 and the levels of rules 30 to 35: kinds and rules by number, as in paper 01 and 000.
+-- The unary operators, and the binary ones by their level: the rules from or_expr to mult_expr, the loosest first.
 -- Assumes nothing: these are definitions.
 use Prim.Native.Nat.{ℕ, _+_, _-_}
 use mathlib.Core.List.{List, [], _∷_}
 use mathlib.Core.Bool.{cond}
 use lib.ListN.{getD}
+use Rattle.kinds.specs.Lists.{kinds-of, only}
+use Rattle.grammar.specs.Names.{rule}
 use Rattle.grammar.specs.Sets.{elem}
-use Rattle.prediction.specs.Plan.{Plan, token, call, wrap, seq, alt, skip}
+use Rattle.prediction.specs.plans.Plan.{Plan, token, call, wrap, seq, alt, skip}
+use Rattle.prediction.specs.Sets.{row}
 
 -- the unary operators
-unfoldable pub signs : List ℕ
-signs = 83 ∷ 82 ∷ 87 ∷ []
+abbrev pub signs : List ℕ
+signs = kinds-of ("-" ∷ "+" ∷ "~" ∷ [])
+
+-- the first level and the last, and the rule of their operands
+abbrev pub loosest : ℕ
+loosest = rule "or_expr"
+
+abbrev pub tightest : ℕ
+tightest = rule "mult_expr"
+
+abbrev pub operand : ℕ
+operand = rule "unary_expr"
 
 -- the operators of level n
 unfoldable pub operators : ℕ → List ℕ
 operators n =
-    getD ((77 ∷ []) ∷ (78 ∷ []) ∷ (79 ∷ []) ∷ (80 ∷ 81 ∷ []) ∷ (82 ∷ 83 ∷ []) ∷ (84 ∷ 85 ∷ 86 ∷ []) ∷ []) (n - 30) []
+    getD (only "|" ∷ only "^" ∷ only "&" ∷ kinds-of (">>" ∷ "<<" ∷ []) ∷ kinds-of ("+" ∷ "-" ∷ []) ∷
+    kinds-of ("*" ∷ "/" ∷ "%" ∷ []) ∷ []) (n - loosest) []
 
 -- one of the operators, and p behind it
 unfoldable pub one-before : List ℕ → Plan → Plan
@@ -35,5 +49,5 @@ first-with k (n ∷ ns) = cond (elem k (operators n)) n (first-with k ns)
 
 -- the level that a kind is an operator of, 0 where it is of none
 unfoldable pub level-of : ℕ → ℕ
-unfolding first-with
-level-of k = first-with k (30 ∷ 31 ∷ 32 ∷ 33 ∷ 34 ∷ 35 ∷ [])
+unfolding first-with row
+level-of k = first-with k (row loosest (operand - loosest))

@@ -2,14 +2,15 @@
 // from "interface" on, in the frame of the definition, which begins at `start`.
 ghost use mathlib.Core.Path.{_≡_};
 ghost use Rattle.grammar.specs.Sets.{elem};
-ghost use Rattle.prediction.specs.Plan.{call, many};
+ghost use Rattle.readers_core.specs.Notation.{<_>, _*};
 ghost use Rattle.readers_core.specs.Course.{one};
-ghost use Rattle.readers_core.specs.Reading.{Short, Flat, From, Reads, Within, several};
-ghost use Rattle.readers_interfaces.specs.Plans.{ReadsNames, optional-bases, exported, braced-body, interface-body};
-ghost use Rattle.readers_interfaces.specs.Plans.{interface-rest, type-dcl-starts, export-starts};
+ghost use Rattle.readers_core.specs.Reading.{Addressable, Flat, Reads, Within};
+ghost use Rattle.readers_interfaces.specs.Plans.{ReadsNames, optional-bases, exported, interface-rest};
+ghost use Rattle.readers_interfaces.specs.Plans.{type-dcl-starts, export-starts};
+use grammar::rule;
+use kinds::kind;
 use readers_core::Reading;
-use readers_core::has_stopped;
-use readers_core::kind;
+use readers_core::inner;
 use readers_core::next_kind;
 use readers_core::node;
 use readers_core::open;
@@ -22,41 +23,42 @@ use readers_structs::except_dcl;
 use readers_structs::type_dcl;
 
 // One or more of (11) interface_name or (20) value_name, with commas between them: a scoped name each, and no record more.
-pub fn scoped_names(tokens: &[u32], tree: &mut [u32], s: Reading) -> Reading
-    requires { ⌜ Short (now tokens) ⌝ }
-    ensures { λ r. ⌜ ReadsNames (now (tokens .entry)) (s, now (tree .entry)) (r, now (tree .exit)) ⌝ }
+pub fn scoped_names(tokens: &[u32], tree: &mut [u32], at: Reading) -> Reading
+    requires { ⌜ Addressable (now tokens) ⌝ }
+    ensures { λ r. ⌜ ReadsNames (now (tokens .entry)) (at, now (tree .entry)) (r, now (tree .exit)) ⌝ }
 {
-    let mut t = scoped_name(&*tokens, tree, s);
-    while next_kind(tokens, t) == kind::COMMA {
-        let mark = take(tokens, t, kind::COMMA);
-        t = scoped_name(&*tokens, tree, mark);
+    let mut names = scoped_name(&*tokens, tree, at);
+    while next_kind(tokens, names) == kind::COMMA {
+        let comma = take(tokens, names, kind::COMMA);
+        names = scoped_name(&*tokens, tree, comma);
     }
-    t
+    names
 }
 
 // (10) interface_inheritance_spec
-fn interface_inheritance_spec(tokens: &[u32], tree: &mut [u32], s: Reading) -> Reading
-    requires { ⌜ Short (now tokens) ⌝ }
-    ensures { λ r. ⌜ Flat one (now (tokens .entry)) (call 10) (s, now (tree .entry)) (r, now (tree .exit)) ⌝ }
+fn interface_inheritance_spec(tokens: &[u32], tree: &mut [u32], at: Reading) -> Reading
+    requires { ⌜ Addressable (now tokens) ⌝ }
+    ensures { λ r. ⌜ Flat one (now (tokens .entry)) < "interface_inheritance_spec" > (at, now (tree .entry)) (r, now (tree .exit)) ⌝ }
 {
-    let t = take(tokens, s, kind::COLON);
-    let u = scoped_names(&*tokens, tree, t);
-    node(tree, s, u, 10)
+    let colon = take(tokens, at, kind::COLON);
+    let names = scoped_names(&*tokens, tree, colon);
+    node(tree, at, names, rule::INTERFACE_INHERITANCE_SPEC)
 }
 
 // The bases of an interface, if any.
-fn bases(tokens: &[u32], tree: &mut [u32], s: Reading) -> Reading
-    requires { ⌜ Short (now tokens) ⌝ }
-    ensures { λ r. ⌜ Flat one (now (tokens .entry)) optional-bases (s, now (tree .entry)) (r, now (tree .exit)) ⌝ }
+fn bases(tokens: &[u32], tree: &mut [u32], at: Reading) -> Reading
+    requires { ⌜ Addressable (now tokens) ⌝ }
+    ensures { λ r. ⌜ Flat one (now (tokens .entry)) optional-bases (at, now (tree .entry)) (r, now (tree .exit)) ⌝ }
 {
-    let next = next_kind(tokens, s);
+    let next = next_kind(tokens, at);
     match next {
-        kind::COLON => interface_inheritance_spec(&*tokens, tree, s),
-        _ => s,
+        kind::COLON => interface_inheritance_spec(&*tokens, tree, at),
+        _ => at,
     }
 }
 
-// Whether (42) type_dcl may start with a token of the kind.
+// Whether (42) type_dcl may start with a token of the kind. Kinds that are neighbours stand in different arms, here and in the
+// other tests of what starts a rule: a row of them in one arm is compiled into tests of its ends.
 pub fn starts_type_dcl(kind: u32) -> bool
     ensures { λ r. ⌜ r ≡ elem kind type-dcl-starts ⌝ }
 {
@@ -71,7 +73,7 @@ pub fn starts_type_dcl(kind: u32) -> bool
 pub fn starts_export(kind: u32) -> bool
     ensures { λ r. ⌜ r ≡ elem kind export-starts ⌝ }
 {
-    if kind::WSTRING < kind {
+    if kind::LAST_KEYWORD < kind {
         return kind == kind::SCOPE;
     }
     match kind {
@@ -91,112 +93,90 @@ pub fn starts_export(kind: u32) -> bool
 }
 
 // What is exported, with its ";".
-fn exported(tokens: &[u32], tree: &mut [u32], s: Reading, depth: u32) -> Reading
-    requires { ⌜ Short (now tokens) ⌝ }
-    ensures { λ r. ⌜ Reads one (now (tokens .entry)) depth exported (s, now (tree .entry)) (r, now (tree .exit)) ⌝ }
+fn exported(tokens: &[u32], tree: &mut [u32], at: Reading, depth: u32) -> Reading
+    requires { ⌜ Addressable (now tokens) ⌝ }
+    ensures { λ r. ⌜ Reads one (now (tokens .entry)) depth exported (at, now (tree .entry)) (r, now (tree .exit)) ⌝ }
 {
-    let next = next_kind(tokens, s);
+    let next = next_kind(tokens, at);
     if starts_type_dcl(next) {
-        let t = type_dcl(&*tokens, tree, s, depth);
-        return take(tokens, t, kind::SEMICOLON);
+        let declaration = type_dcl(&*tokens, tree, at, depth);
+        return take(tokens, declaration, kind::SEMICOLON);
     }
     match next {
         kind::CONST => {
-            let t = const_dcl(&*tokens, tree, s, depth);
-            take(tokens, t, kind::SEMICOLON)
+            let declaration = const_dcl(&*tokens, tree, at, depth);
+            take(tokens, declaration, kind::SEMICOLON)
         }
         kind::EXCEPTION => {
-            let t = except_dcl(&*tokens, tree, s, depth);
-            take(tokens, t, kind::SEMICOLON)
+            let declaration = except_dcl(&*tokens, tree, at, depth);
+            take(tokens, declaration, kind::SEMICOLON)
         }
         kind::READONLY | kind::ATTRIBUTE => {
-            let t = attr_dcl(&*tokens, tree, s, depth);
-            take(tokens, t, kind::SEMICOLON)
+            let declaration = attr_dcl(&*tokens, tree, at, depth);
+            take(tokens, declaration, kind::SEMICOLON)
         }
         _ => {
-            let t = op_dcl(&*tokens, tree, s, depth);
-            take(tokens, t, kind::SEMICOLON)
+            let declaration = op_dcl(&*tokens, tree, at, depth);
+            take(tokens, declaration, kind::SEMICOLON)
         }
     }
 }
 
 // (9) export
-pub fn export(tokens: &[u32], tree: &mut [u32], s: Reading, depth: u32) -> Reading
-    requires { ⌜ Short (now tokens) ⌝ }
-    ensures { λ r. ⌜ Reads one (now (tokens .entry)) depth (call 9) (s, now (tree .entry)) (r, now (tree .exit)) ⌝ }
+pub fn export(tokens: &[u32], tree: &mut [u32], at: Reading, depth: u32) -> Reading
+    requires { ⌜ Addressable (now tokens) ⌝ }
+    ensures { λ r. ⌜ Reads one (now (tokens .entry)) depth < "export" > (at, now (tree .entry)) (r, now (tree .exit)) ⌝ }
 {
-    let t = exported(&*tokens, tree, s, depth);
-    node(tree, s, t, 9)
+    let exported = exported(&*tokens, tree, at, depth);
+    node(tree, at, exported, rule::EXPORT)
 }
 
 // Exports, as many as there are.
-pub fn exports(tokens: &[u32], tree: &mut [u32], s: Reading, depth: u32) -> Reading
-    requires { ⌜ Short (now tokens) ⌝ }
-    ensures { λ r. ⌜ Reads one (now (tokens .entry)) depth (many (call 9)) (s, now (tree .entry)) (r, now (tree .exit)) ⌝ }
+pub fn exports(tokens: &[u32], tree: &mut [u32], at: Reading, depth: u32) -> Reading
+    requires { ⌜ Addressable (now tokens) ⌝ }
+    ensures { λ r. ⌜ Reads one (now (tokens .entry)) depth (< "export" > *) (at, now (tree .entry)) (r, now (tree .exit)) ⌝ }
 {
-    let mut t = s;
-    while starts_export(next_kind(tokens, t)) {
-        t = export(&*tokens, tree, t, depth);
+    let mut read = at;
+    while starts_export(next_kind(tokens, read)) {
+        read = export(&*tokens, tree, read, depth);
     }
-    t
+    read
 }
 
 // (8) interface_body
-fn interface_body(tokens: &[u32], tree: &mut [u32], s: Reading, depth: u32) -> Reading
-    requires { ⌜ Short (now tokens) ⌝ }
-    ensures { λ r. ⌜ Reads one (now (tokens .entry)) depth (call 8) (s, now (tree .entry)) (r, now (tree .exit)) ⌝ }
+fn interface_body(tokens: &[u32], tree: &mut [u32], at: Reading, depth: u32) -> Reading
+    requires { ⌜ Addressable (now tokens) ⌝ }
+    ensures { λ r. ⌜ Reads one (now (tokens .entry)) depth < "interface_body" > (at, now (tree .entry)) (r, now (tree .exit)) ⌝ }
 {
-    let t = exports(&*tokens, tree, s, depth);
-    node(tree, s, t, 8)
+    let exports = exports(&*tokens, tree, at, depth);
+    node(tree, at, exports, rule::INTERFACE_BODY)
 }
 
-// A body in braces, at one level of depth less.
-fn braced_body(tokens: &[u32], tree: &mut [u32], s: Reading, depth: u32) -> Reading
-    requires { ⌜ Short (now tokens) ⌝ }
-    ensures { λ r. ⌜ Reads one (now (tokens .entry)) depth braced-body (s, now (tree .entry)) (r, now (tree .exit)) ⌝ }
-{
-    let t = open(tokens, s, kind::OPEN_BRACE, depth);
-    if has_stopped(t) {
-        return t;
-    }
-    let u = interface_body(&*tokens, tree, t, depth - 1);
-    take(tokens, u, kind::CLOSE_BRACE)
-}
-
-// Behind the name: the end of (7) interface_header and the body of (5) interface_dcl.
-fn interface_dcl(
-    tokens: &[u32],
-    tree: &mut [u32],
-    start: Reading,
-    s: Reading,
-    depth: u32,
-) -> Reading
-    requires { ⌜ Short (now tokens) ⌝ }
-    ensures { λ r. ⌜ From one (now (tokens .entry)) depth start several interface-body (s, now (tree .entry)) (r, now (tree .exit)) ⌝ }
-{
-    let t = bases(&*tokens, tree, s);
-    let u = node(tree, start, t, 7);
-    let v = braced_body(&*tokens, tree, u, depth);
-    node(tree, start, v, 5)
-}
-
-// (4) interface, from "interface" on: one with a body, or (6) forward_dcl.
+// (4) interface, from "interface" on: (5) interface_dcl, whose (7) interface_header ends behind its bases, or
+// (6) forward_dcl.
 pub fn interface(
     tokens: &[u32],
     tree: &mut [u32],
     start: Reading,
-    s: Reading,
+    at: Reading,
     depth: u32,
 ) -> Reading
-    requires { ⌜ Short (now tokens) ⌝ }
-    ensures { λ r. ⌜ Within one (now (tokens .entry)) depth start interface-rest (s, now (tree .entry)) (r, now (tree .exit)) ⌝ }
+    requires { ⌜ Addressable (now tokens) ⌝ }
+    ensures { λ r. ⌜ Within one (now (tokens .entry)) depth start interface-rest (at, now (tree .entry)) (r, now (tree .exit)) ⌝ }
 {
     let tokens = &*tokens;
-    let t = take(tokens, s, kind::INTERFACE);
-    let u = take(tokens, t, kind::IDENTIFIER);
-    let next = next_kind(tokens, u);
+    let word = take(tokens, at, kind::INTERFACE);
+    let name = take(tokens, word, kind::IDENTIFIER);
+    let next = next_kind(tokens, name);
     match next {
-        kind::COLON | kind::OPEN_BRACE => interface_dcl(&*tokens, tree, start, u, depth),
-        _ => node(tree, start, u, 6),
+        kind::COLON | kind::OPEN_BRACE => {
+            let bases = bases(&*tokens, tree, name);
+            let header = node(tree, start, bases, rule::INTERFACE_HEADER);
+            let inside = open(tokens, header, kind::OPEN_BRACE, depth);
+            let body = interface_body(&*tokens, tree, inside, inner(depth));
+            let whole = take(tokens, body, kind::CLOSE_BRACE);
+            node(tree, start, whole, rule::INTERFACE_DCL)
+        }
+        _ => node(tree, start, name, rule::FORWARD_DCL),
     }
 }

@@ -1,38 +1,41 @@
--- The parts of plans that readers of operations and attributes follow: kinds and rules by number, as in paper 01 and 000.
+-- The parts of plans that readers of operations, attributes and initializers follow, in the notation of the rules.
 -- Assumes nothing: these are definitions.
 use Prim.Native.Nat.{ℕ}
 use mathlib.Core.Logic.{_⊎_}
 use mathlib.Core.Path.{_≡_}
 use mathlib.Core.List.{List, [], _∷_}
-use Rattle.prediction.specs.Plan.{Plan, token, call, seq, alt, many, group, skip}
+use Rattle.kinds.specs.Kinds.{string}
+use Rattle.kinds.specs.Lists.{kinds-of}
+use Rattle.grammar.specs.Names.{rule}
+use Rattle.prediction.specs.plans.Plan.{Plan}
+use Rattle.readers_core.specs.Notation.{`_, <_>, _▸_, ⟦_⟧, _*, list-of}
 use Rattle.readers_names.specs.Plans.{string-literal}
 
 -- the words before a parameter
-unfoldable pub directions : List ℕ
-directions = 36 ∷ 45 ∷ 37 ∷ []
+abbrev pub directions : List ℕ
+directions = kinds-of ("in" ∷ "out" ∷ "inout" ∷ [])
 
--- the rules whose uses stand in lists: scoped_name, simple_declarator, param_dcl
+-- the rules whose uses stand in lists
 abbrev pub Listed : ℕ → Type 0
-Listed r = (r ≡ 12) ⊎ ((r ≡ 51) ⊎ (r ≡ 91))
+Listed r =
+    (r ≡ rule "scoped_name") ⊎ ((r ≡ rule "simple_declarator") ⊎ ((r ≡ rule "param_dcl") ⊎ (r ≡ rule "init_param_decl")))
 
--- a use of rule r, and more behind commas
-abbrev pub further : (r : ℕ) → Plan
-further r = many (seq (token 68) (call r))
-
-abbrev pub list-of : (r : ℕ) → Plan
-list-of r = seq (call r) (further r)
-
--- the parameters of an operation, in parentheses
-abbrev pub parameters : Plan
-parameters = group 71 (alt (list-of 91) skip) 72
-
--- the names of exceptions, in parentheses
-abbrev pub exceptions : Plan
-exceptions = group 71 (list-of 12) 72
-
--- string literals behind commas; those of a context, in parentheses
+-- string literals behind commas
 abbrev pub further-strings : Plan
-further-strings = many (seq (token 68) (string-literal 7))
+further-strings = (` "," ▸ string-literal string) *
 
-abbrev pub contexts : Plan
-contexts = group 71 (seq (token 7) (seq (many (token 7)) further-strings)) 72
+-- parts that may be left out
+abbrev pub optional-parameters : Plan
+optional-parameters = ⟦ list-of (rule "param_dcl") ⟧
+
+abbrev pub optional-raises : Plan
+optional-raises = ⟦ < "raises_expr" > ⟧
+
+abbrev pub optional-context : Plan
+optional-context = ⟦ < "context_expr" > ⟧
+
+abbrev pub optional-oneway : Plan
+optional-oneway = ⟦ < "op_attribute" > ⟧
+
+abbrev pub optional-readonly : Plan
+optional-readonly = ⟦ ` "readonly" ⟧

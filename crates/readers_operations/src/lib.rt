@@ -1,250 +1,251 @@
-// Readers of operations and attributes.
-ghost use mathlib.Core.Path.{_≡_};
-ghost use Rattle.grammar.specs.Sets.{elem};
-ghost use Rattle.prediction.specs.Plan.{alt, call, skip, token};
+// Readers of operations and attributes, and of the parameters of initializers.
+ghost use Rattle.prediction.specs.plans.Plan.{call};
+ghost use Rattle.readers_core.specs.Notation.{<_>, further, list-of};
 ghost use Rattle.readers_core.specs.Course.{one};
-ghost use Rattle.readers_core.specs.Reading.{Short, Flat, Reads, Takes};
-ghost use Rattle.readers_operations.specs.Plans.{directions, Listed, further, list-of, parameters, exceptions};
-ghost use Rattle.readers_operations.specs.Plans.{further-strings, contexts};
+ghost use Rattle.readers_core.specs.Reading.{Addressable, Flat, Reads, Takes};
+ghost use Rattle.readers_operations.specs.Plans.{Listed, further-strings, optional-parameters};
+ghost use Rattle.readers_operations.specs.Plans.{optional-raises, optional-context, optional-oneway};
+ghost use Rattle.readers_operations.specs.Plans.{optional-readonly};
+use grammar::rule;
+use kinds::kind;
 use readers_core::Reading;
-use readers_core::has_stopped;
-use readers_core::kind;
+use readers_core::inner;
 use readers_core::next_kind;
 use readers_core::node;
 use readers_core::open;
 use readers_core::take;
+use readers_names::is_one_of;
+use readers_names::one_of_three;
+use readers_names::one_token;
 use readers_names::scoped_name;
 use readers_names::string_literal;
-use readers_names::word;
 use readers_types::param_type_spec;
 
 // (89) op_type_spec
-fn op_type_spec(tokens: &[u32], tree: &mut [u32], s: Reading, depth: u32) -> Reading
-    requires { ⌜ Short (now tokens) ⌝ }
-    ensures { λ r. ⌜ Reads one (now (tokens .entry)) depth (call 89) (s, now (tree .entry)) (r, now (tree .exit)) ⌝ }
+fn op_type_spec(tokens: &[u32], tree: &mut [u32], at: Reading, depth: u32) -> Reading
+    requires { ⌜ Addressable (now tokens) ⌝ }
+    ensures { λ r. ⌜ Reads one (now (tokens .entry)) depth < "op_type_spec" > (at, now (tree .entry)) (r, now (tree .exit)) ⌝ }
 {
-    let next = next_kind(tokens, s);
+    let next = next_kind(tokens, at);
     if next == kind::VOID {
-        let t = take(tokens, s, kind::VOID);
-        return node(tree, s, t, 89);
+        let word = take(tokens, at, kind::VOID);
+        return node(tree, at, word, rule::OP_TYPE_SPEC);
     }
-    param_type_spec(&*tokens, tree, s, depth)
+    param_type_spec(&*tokens, tree, at, depth)
 }
 
-// (92) param_attribute
-fn param_attribute(tokens: &[u32], tree: &mut [u32], s: Reading) -> Reading
-    requires { ⌜ Short (now tokens) ⌝ }
-    ensures { λ r. ⌜ Flat one (now (tokens .entry)) (call 92) (s, now (tree .entry)) (r, now (tree .exit)) ⌝ }
+// (91) param_dcl, with its (92) param_attribute
+fn param_dcl(tokens: &[u32], tree: &mut [u32], at: Reading, depth: u32) -> Reading
+    requires { ⌜ Addressable (now tokens) ⌝ }
+    ensures { λ r. ⌜ Reads one (now (tokens .entry)) depth < "param_dcl" > (at, now (tree .entry)) (r, now (tree .exit)) ⌝ }
 {
-    let next = next_kind(tokens, s);
-    match next {
-        kind::OUT | kind::INOUT => {
-            let t = take(tokens, s, next);
-            node(tree, s, t, 92)
-        }
-        _ => {
-            let t = take(tokens, s, kind::IN);
-            node(tree, s, t, 92)
-        }
-    }
+    let direction = one_of_three(
+        &*tokens,
+        tree,
+        at,
+        kind::IN,
+        kind::OUT,
+        kind::INOUT,
+        rule::PARAM_ATTRIBUTE,
+    );
+    let spec = param_type_spec(&*tokens, tree, direction, depth);
+    let name = one_token(
+        &*tokens,
+        tree,
+        spec,
+        kind::IDENTIFIER,
+        rule::SIMPLE_DECLARATOR,
+    );
+    node(tree, at, name, rule::PARAM_DCL)
 }
 
-// (91) param_dcl
-fn param_dcl(tokens: &[u32], tree: &mut [u32], s: Reading, depth: u32) -> Reading
-    requires { ⌜ Short (now tokens) ⌝ }
-    ensures { λ r. ⌜ Reads one (now (tokens .entry)) depth (call 91) (s, now (tree .entry)) (r, now (tree .exit)) ⌝ }
+// (25) init_param_decl; (26) init_param_attribute and (51) simple_declarator are one token each.
+fn init_param_decl(tokens: &[u32], tree: &mut [u32], at: Reading, depth: u32) -> Reading
+    requires { ⌜ Addressable (now tokens) ⌝ }
+    ensures { λ r. ⌜ Reads one (now (tokens .entry)) depth < "init_param_decl" > (at, now (tree .entry)) (r, now (tree .exit)) ⌝ }
 {
-    let t = param_attribute(&*tokens, tree, s);
-    let u = param_type_spec(&*tokens, tree, t, depth);
-    let v = word(&*tokens, tree, u, kind::IDENTIFIER, 51);
-    node(tree, s, v, 91)
+    let word = one_token(&*tokens, tree, at, kind::IN, rule::INIT_PARAM_ATTRIBUTE);
+    let spec = param_type_spec(&*tokens, tree, word, depth);
+    let name = one_token(
+        &*tokens,
+        tree,
+        spec,
+        kind::IDENTIFIER,
+        rule::SIMPLE_DECLARATOR,
+    );
+    node(tree, at, name, rule::INIT_PARAM_DECL)
 }
 
-// What stands in a list: (12) scoped_name, (51) simple_declarator or (91) param_dcl.
-fn item(tokens: &[u32], tree: &mut [u32], s: Reading, depth: u32, rule: u32) -> Reading
-    requires { ⌜ Short (now tokens) × Listed rule ⌝ }
-    ensures { λ r. ⌜ Reads one (now (tokens .entry)) depth (call rule) (s, now (tree .entry)) (r, now (tree .exit)) ⌝ }
+// What stands in a list: (12) scoped_name, (51) simple_declarator, (91) param_dcl or (25) init_param_decl.
+fn item(tokens: &[u32], tree: &mut [u32], at: Reading, depth: u32, rule: u32) -> Reading
+    requires { ⌜ Addressable (now tokens) × Listed rule ⌝ }
+    ensures { λ r. ⌜ Reads one (now (tokens .entry)) depth (call rule) (at, now (tree .entry)) (r, now (tree .exit)) ⌝ }
 {
     match rule {
-        12 => scoped_name(&*tokens, tree, s),
-        51 => word(&*tokens, tree, s, kind::IDENTIFIER, 51),
-        _ => param_dcl(&*tokens, tree, s, depth),
+        rule::SCOPED_NAME => scoped_name(&*tokens, tree, at),
+        rule::SIMPLE_DECLARATOR => one_token(
+            &*tokens,
+            tree,
+            at,
+            kind::IDENTIFIER,
+            rule::SIMPLE_DECLARATOR,
+        ),
+        rule::PARAM_DCL => param_dcl(&*tokens, tree, at, depth),
+        _ => init_param_decl(&*tokens, tree, at, depth),
     }
 }
 
 // More of a list, each behind a comma.
-fn further(tokens: &[u32], tree: &mut [u32], s: Reading, depth: u32, rule: u32) -> Reading
-    requires { ⌜ Short (now tokens) × Listed rule ⌝ }
-    ensures { λ r. ⌜ Reads one (now (tokens .entry)) depth (further rule) (s, now (tree .entry)) (r, now (tree .exit)) ⌝ }
+fn further(tokens: &[u32], tree: &mut [u32], at: Reading, depth: u32, rule: u32) -> Reading
+    requires { ⌜ Addressable (now tokens) × Listed rule ⌝ }
+    ensures { λ r. ⌜ Reads one (now (tokens .entry)) depth (further rule) (at, now (tree .entry)) (r, now (tree .exit)) ⌝ }
 {
-    let mut t = s;
-    while next_kind(tokens, t) == kind::COMMA {
-        let mark = take(tokens, t, kind::COMMA);
-        t = item(&*tokens, tree, mark, depth, rule);
+    let mut listed = at;
+    while next_kind(tokens, listed) == kind::COMMA {
+        let comma = take(tokens, listed, kind::COMMA);
+        listed = item(&*tokens, tree, comma, depth, rule);
     }
-    t
+    listed
 }
 
 // A list: one at least.
-fn list(tokens: &[u32], tree: &mut [u32], s: Reading, depth: u32, rule: u32) -> Reading
-    requires { ⌜ Short (now tokens) × Listed rule ⌝ }
-    ensures { λ r. ⌜ Reads one (now (tokens .entry)) depth (list-of rule) (s, now (tree .entry)) (r, now (tree .exit)) ⌝ }
+fn list(tokens: &[u32], tree: &mut [u32], at: Reading, depth: u32, rule: u32) -> Reading
+    requires { ⌜ Addressable (now tokens) × Listed rule ⌝ }
+    ensures { λ r. ⌜ Reads one (now (tokens .entry)) depth (list-of rule) (at, now (tree .entry)) (r, now (tree .exit)) ⌝ }
 {
-    let t = item(&*tokens, tree, s, depth, rule);
-    further(&*tokens, tree, t, depth, rule)
+    let first = item(&*tokens, tree, at, depth, rule);
+    further(&*tokens, tree, first, depth, rule)
 }
 
-// Whether the kind begins a parameter.
-fn is_direction(kind: u32) -> bool
-    ensures { λ r. ⌜ r ≡ elem kind directions ⌝ }
+// (24) init_param_decls: one alone leaves no record.
+pub fn init_param_decls(tokens: &[u32], tree: &mut [u32], at: Reading, depth: u32) -> Reading
+    requires { ⌜ Addressable (now tokens) ⌝ }
+    ensures { λ r. ⌜ Reads one (now (tokens .entry)) depth < "init_param_decls" > (at, now (tree .entry)) (r, now (tree .exit)) ⌝ }
 {
-    if kind == kind::IN {
-        return true;
+    let first = init_param_decl(&*tokens, tree, at, depth);
+    let next = next_kind(tokens, first);
+    if next == kind::COMMA {
+        let listed = further(&*tokens, tree, first, depth, rule::INIT_PARAM_DECL);
+        return node(tree, at, listed, rule::INIT_PARAM_DECLS);
     }
-    kind == kind::OUT || kind == kind::INOUT
+    first
 }
 
-// Parameters or none, in parentheses.
-fn parameters(tokens: &[u32], tree: &mut [u32], s: Reading, depth: u32) -> Reading
-    requires { ⌜ Short (now tokens) ⌝ }
-    ensures { λ r. ⌜ Reads one (now (tokens .entry)) depth parameters (s, now (tree .entry)) (r, now (tree .exit)) ⌝ }
+// Parameters, if any.
+fn parameters(tokens: &[u32], tree: &mut [u32], at: Reading, depth: u32) -> Reading
+    requires { ⌜ Addressable (now tokens) ⌝ }
+    ensures { λ r. ⌜ Reads one (now (tokens .entry)) depth optional-parameters (at, now (tree .entry)) (r, now (tree .exit)) ⌝ }
 {
-    let t = open(tokens, s, kind::OPEN_PARENTHESIS, depth);
-    if has_stopped(t) {
-        return t;
+    let next = next_kind(tokens, at);
+    if is_one_of(next, kind::IN, kind::OUT, kind::INOUT) {
+        return list(&*tokens, tree, at, depth, rule::PARAM_DCL);
     }
-    let next = next_kind(tokens, t);
-    if is_direction(next) {
-        let u = list(&*tokens, tree, t, depth - 1, 91);
-        return take(tokens, u, kind::CLOSE_PARENTHESIS);
-    }
-    take(tokens, t, kind::CLOSE_PARENTHESIS)
+    at
 }
 
 // (90) parameter_dcls
-fn parameter_dcls(tokens: &[u32], tree: &mut [u32], s: Reading, depth: u32) -> Reading
-    requires { ⌜ Short (now tokens) ⌝ }
-    ensures { λ r. ⌜ Reads one (now (tokens .entry)) depth (call 90) (s, now (tree .entry)) (r, now (tree .exit)) ⌝ }
+fn parameter_dcls(tokens: &[u32], tree: &mut [u32], at: Reading, depth: u32) -> Reading
+    requires { ⌜ Addressable (now tokens) ⌝ }
+    ensures { λ r. ⌜ Reads one (now (tokens .entry)) depth < "parameter_dcls" > (at, now (tree .entry)) (r, now (tree .exit)) ⌝ }
 {
-    let t = parameters(&*tokens, tree, s, depth);
-    node(tree, s, t, 90)
-}
-
-// The names of exceptions, in parentheses.
-fn exceptions(tokens: &[u32], tree: &mut [u32], s: Reading, depth: u32) -> Reading
-    requires { ⌜ Short (now tokens) ⌝ }
-    ensures { λ r. ⌜ Reads one (now (tokens .entry)) depth exceptions (s, now (tree .entry)) (r, now (tree .exit)) ⌝ }
-{
-    let t = open(tokens, s, kind::OPEN_PARENTHESIS, depth);
-    if has_stopped(t) {
-        return t;
-    }
-    let u = list(&*tokens, tree, t, depth - 1, 12);
-    take(tokens, u, kind::CLOSE_PARENTHESIS)
+    let inside = open(tokens, at, kind::OPEN_PARENTHESIS, depth);
+    let listed = parameters(&*tokens, tree, inside, inner(depth));
+    let closed = take(tokens, listed, kind::CLOSE_PARENTHESIS);
+    node(tree, at, closed, rule::PARAMETER_DCLS)
 }
 
 // (93) raises_expr, or nothing.
-fn raises(tokens: &[u32], tree: &mut [u32], s: Reading, depth: u32) -> Reading
-    requires { ⌜ Short (now tokens) ⌝ }
-    ensures { λ r. ⌜ Reads one (now (tokens .entry)) depth (alt (call 93) skip) (s, now (tree .entry)) (r, now (tree .exit)) ⌝ }
+fn raises(tokens: &[u32], tree: &mut [u32], at: Reading, depth: u32) -> Reading
+    requires { ⌜ Addressable (now tokens) ⌝ }
+    ensures { λ r. ⌜ Reads one (now (tokens .entry)) depth optional-raises (at, now (tree .entry)) (r, now (tree .exit)) ⌝ }
 {
-    let next = next_kind(tokens, s);
+    let next = next_kind(tokens, at);
     if next == kind::RAISES {
-        let t = take(tokens, s, kind::RAISES);
-        let u = exceptions(&*tokens, tree, t, depth);
-        return node(tree, s, u, 93);
+        let word = take(tokens, at, kind::RAISES);
+        let inside = open(tokens, word, kind::OPEN_PARENTHESIS, depth);
+        let names = list(&*tokens, tree, inside, inner(depth), rule::SCOPED_NAME);
+        let closed = take(tokens, names, kind::CLOSE_PARENTHESIS);
+        return node(tree, at, closed, rule::RAISES_EXPR);
     }
-    s
+    at
 }
 
 // String literals, each behind a comma.
-fn further_strings(tokens: &[u32], s: Reading) -> Reading
-    requires { ⌜ Short (now tokens) ⌝ }
-    ensures { λ r. ⌜ Takes (now (tokens .entry)) further-strings s r ⌝ }
+fn further_strings(tokens: &[u32], at: Reading) -> Reading
+    requires { ⌜ Addressable (now tokens) ⌝ }
+    ensures { λ r. ⌜ Takes (now (tokens .entry)) further-strings at r ⌝ }
 {
-    let mut t = s;
-    while next_kind(tokens, t) == kind::COMMA {
-        let mark = take(tokens, t, kind::COMMA);
-        t = string_literal(&*tokens, mark, kind::STRING_LITERAL);
+    let mut listed = at;
+    while next_kind(tokens, listed) == kind::COMMA {
+        let comma = take(tokens, listed, kind::COMMA);
+        listed = string_literal(&*tokens, comma, kind::STRING_LITERAL);
     }
-    t
-}
-
-// The string literals of a context, in parentheses.
-fn contexts(tokens: &[u32], tree: &mut [u32], s: Reading, depth: u32) -> Reading
-    requires { ⌜ Short (now tokens) ⌝ }
-    ensures { λ r. ⌜ Reads one (now (tokens .entry)) depth contexts (s, now (tree .entry)) (r, now (tree .exit)) ⌝ }
-{
-    let t = open(tokens, s, kind::OPEN_PARENTHESIS, depth);
-    if has_stopped(t) {
-        return t;
-    }
-    let u = string_literal(&*tokens, t, kind::STRING_LITERAL);
-    let v = further_strings(&*tokens, u);
-    take(tokens, v, kind::CLOSE_PARENTHESIS)
+    listed
 }
 
 // (94) context_expr, or nothing.
-fn context(tokens: &[u32], tree: &mut [u32], s: Reading, depth: u32) -> Reading
-    requires { ⌜ Short (now tokens) ⌝ }
-    ensures { λ r. ⌜ Reads one (now (tokens .entry)) depth (alt (call 94) skip) (s, now (tree .entry)) (r, now (tree .exit)) ⌝ }
+fn context(tokens: &[u32], tree: &mut [u32], at: Reading, depth: u32) -> Reading
+    requires { ⌜ Addressable (now tokens) ⌝ }
+    ensures { λ r. ⌜ Reads one (now (tokens .entry)) depth optional-context (at, now (tree .entry)) (r, now (tree .exit)) ⌝ }
 {
-    let next = next_kind(tokens, s);
+    let next = next_kind(tokens, at);
     if next == kind::CONTEXT {
-        let t = take(tokens, s, kind::CONTEXT);
-        let u = contexts(&*tokens, tree, t, depth);
-        return node(tree, s, u, 94);
+        let word = take(tokens, at, kind::CONTEXT);
+        let inside = open(tokens, word, kind::OPEN_PARENTHESIS, depth);
+        let first = string_literal(&*tokens, inside, kind::STRING_LITERAL);
+        let listed = further_strings(&*tokens, first);
+        let closed = take(tokens, listed, kind::CLOSE_PARENTHESIS);
+        return node(tree, at, closed, rule::CONTEXT_EXPR);
     }
-    s
+    at
 }
 
 // (88) op_attribute, or nothing.
-fn oneway(tokens: &[u32], tree: &mut [u32], s: Reading) -> Reading
-    requires { ⌜ Short (now tokens) ⌝ }
-    ensures { λ r. ⌜ Flat one (now (tokens .entry)) (alt (call 88) skip) (s, now (tree .entry)) (r, now (tree .exit)) ⌝ }
+fn oneway(tokens: &[u32], tree: &mut [u32], at: Reading) -> Reading
+    requires { ⌜ Addressable (now tokens) ⌝ }
+    ensures { λ r. ⌜ Flat one (now (tokens .entry)) optional-oneway (at, now (tree .entry)) (r, now (tree .exit)) ⌝ }
 {
-    let next = next_kind(tokens, s);
+    let next = next_kind(tokens, at);
     if next == kind::ONEWAY {
-        return word(&*tokens, tree, s, kind::ONEWAY, 88);
+        return one_token(&*tokens, tree, at, kind::ONEWAY, rule::OP_ATTRIBUTE);
     }
-    s
+    at
 }
 
 // (87) op_dcl
-pub fn op_dcl(tokens: &[u32], tree: &mut [u32], s: Reading, depth: u32) -> Reading
-    requires { ⌜ Short (now tokens) ⌝ }
-    ensures { λ r. ⌜ Reads one (now (tokens .entry)) depth (call 87) (s, now (tree .entry)) (r, now (tree .exit)) ⌝ }
+pub fn op_dcl(tokens: &[u32], tree: &mut [u32], at: Reading, depth: u32) -> Reading
+    requires { ⌜ Addressable (now tokens) ⌝ }
+    ensures { λ r. ⌜ Reads one (now (tokens .entry)) depth < "op_dcl" > (at, now (tree .entry)) (r, now (tree .exit)) ⌝ }
 {
-    let t = oneway(&*tokens, tree, s);
-    let u = op_type_spec(&*tokens, tree, t, depth);
-    let v = take(tokens, u, kind::IDENTIFIER);
-    let w = parameter_dcls(&*tokens, tree, v, depth);
-    let x = raises(&*tokens, tree, w, depth);
-    let y = context(&*tokens, tree, x, depth);
-    node(tree, s, y, 87)
+    let attribute = oneway(&*tokens, tree, at);
+    let spec = op_type_spec(&*tokens, tree, attribute, depth);
+    let name = take(tokens, spec, kind::IDENTIFIER);
+    let taking = parameter_dcls(&*tokens, tree, name, depth);
+    let raising = raises(&*tokens, tree, taking, depth);
+    let whole = context(&*tokens, tree, raising, depth);
+    node(tree, at, whole, rule::OP_DCL)
 }
 
 // "readonly", or nothing.
-fn readonly(tokens: &[u32], s: Reading) -> Reading
-    requires { ⌜ Short (now tokens) ⌝ }
-    ensures { λ r. ⌜ Takes (now (tokens .entry)) (alt (token 49) skip) s r ⌝ }
+fn readonly(tokens: &[u32], at: Reading) -> Reading
+    requires { ⌜ Addressable (now tokens) ⌝ }
+    ensures { λ r. ⌜ Takes (now (tokens .entry)) optional-readonly at r ⌝ }
 {
-    let next = next_kind(tokens, s);
+    let next = next_kind(tokens, at);
     if next == kind::READONLY {
-        return take(tokens, s, kind::READONLY);
+        return take(tokens, at, kind::READONLY);
     }
-    s
+    at
 }
 
 // (85) attr_dcl
-pub fn attr_dcl(tokens: &[u32], tree: &mut [u32], s: Reading, depth: u32) -> Reading
-    requires { ⌜ Short (now tokens) ⌝ }
-    ensures { λ r. ⌜ Reads one (now (tokens .entry)) depth (call 85) (s, now (tree .entry)) (r, now (tree .exit)) ⌝ }
+pub fn attr_dcl(tokens: &[u32], tree: &mut [u32], at: Reading, depth: u32) -> Reading
+    requires { ⌜ Addressable (now tokens) ⌝ }
+    ensures { λ r. ⌜ Reads one (now (tokens .entry)) depth < "attr_dcl" > (at, now (tree .entry)) (r, now (tree .exit)) ⌝ }
 {
-    let t = readonly(&*tokens, s);
-    let u = take(tokens, t, kind::ATTRIBUTE);
-    let v = param_type_spec(&*tokens, tree, u, depth);
-    let w = word(&*tokens, tree, v, kind::IDENTIFIER, 51);
-    let x = further(&*tokens, tree, w, depth, 51);
-    node(tree, s, x, 85)
+    let word = readonly(&*tokens, at);
+    let words = take(tokens, word, kind::ATTRIBUTE);
+    let spec = param_type_spec(&*tokens, tree, words, depth);
+    let names = list(&*tokens, tree, spec, depth, rule::SIMPLE_DECLARATOR);
+    node(tree, at, names, rule::ATTR_DCL)
 }

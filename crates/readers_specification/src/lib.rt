@@ -2,13 +2,15 @@
 // at the "{" of a module.
 ghost use mathlib.Core.Path.{_≡_};
 ghost use Rattle.grammar.specs.Sets.{elem};
-ghost use Rattle.prediction.specs.Plan.{call};
+ghost use Rattle.kinds.specs.Kinds.{kind-of};
+ghost use Rattle.readers_core.specs.Notation.{<_>};
 ghost use Rattle.readers_core.specs.Course.{one};
-ghost use Rattle.readers_core.specs.Reading.{ahead, Short, Reads, Within};
+ghost use Rattle.readers_core.specs.Reading.{ahead, Addressable, Reads, Within};
 ghost use Rattle.readers_specification.specs.Plans.{abstract-definition, defined, definitions, definition-starts};
+use grammar::rule;
+use kinds::kind;
 use readers_core::Reading;
 use readers_core::has_stopped;
-use readers_core::kind;
 use readers_core::next_kind;
 use readers_core::node;
 use readers_core::open;
@@ -27,17 +29,17 @@ fn abstract_definition(
     tokens: &[u32],
     tree: &mut [u32],
     start: Reading,
-    s: Reading,
+    at: Reading,
     depth: u32,
 ) -> Reading
-    requires { ⌜ Short (now tokens) ⌝ }
-    ensures { λ r. ⌜ Within one (now (tokens .entry)) depth start abstract-definition (s, now (tree .entry)) (r, now (tree .exit)) ⌝ }
+    requires { ⌜ Addressable (now tokens) ⌝ }
+    ensures { λ r. ⌜ Within one (now (tokens .entry)) depth start abstract-definition (at, now (tree .entry)) (r, now (tree .exit)) ⌝ }
 {
-    let t = take(tokens, s, kind::ABSTRACT);
-    let next = next_kind(tokens, t);
+    let word = take(tokens, at, kind::ABSTRACT);
+    let next = next_kind(tokens, word);
     match next {
-        kind::INTERFACE => interface(&*tokens, tree, start, t, depth),
-        _ => abstract_value(&*tokens, tree, start, t, depth),
+        kind::INTERFACE => interface(&*tokens, tree, start, word, depth),
+        _ => abstract_value(&*tokens, tree, start, word, depth),
     }
 }
 
@@ -46,29 +48,29 @@ fn other_definition(
     tokens: &[u32],
     tree: &mut [u32],
     start: Reading,
-    s: Reading,
+    at: Reading,
     depth: u32,
 ) -> Reading
-    requires { ⌜ Short (now tokens) ⌝ }
-    requires { ⌜ (ahead (now tokens) s ≡ 41 → ⊥) ⌝ }
-    ensures { λ r. ⌜ Within one (now (tokens .entry)) depth start defined (s, now (tree .entry)) (r, now (tree .exit)) ⌝ }
+    requires { ⌜ Addressable (now tokens) ⌝ }
+    requires { ⌜ (ahead (now tokens) at ≡ kind-of "module" → ⊥) ⌝ }
+    ensures { λ r. ⌜ Within one (now (tokens .entry)) depth start defined (at, now (tree .entry)) (r, now (tree .exit)) ⌝ }
 {
-    let next = next_kind(tokens, s);
+    let next = next_kind(tokens, at);
     match next {
-        kind::CONST => const_dcl(&*tokens, tree, s, depth),
-        kind::EXCEPTION => except_dcl(&*tokens, tree, s, depth),
-        kind::ABSTRACT => abstract_definition(&*tokens, tree, start, s, depth),
+        kind::CONST => const_dcl(&*tokens, tree, at, depth),
+        kind::EXCEPTION => except_dcl(&*tokens, tree, at, depth),
+        kind::ABSTRACT => abstract_definition(&*tokens, tree, start, at, depth),
         kind::LOCAL => {
-            let t = take(tokens, s, kind::LOCAL);
-            interface(&*tokens, tree, start, t, depth)
+            let word = take(tokens, at, kind::LOCAL);
+            interface(&*tokens, tree, start, word, depth)
         }
-        kind::INTERFACE => interface(&*tokens, tree, start, s, depth),
+        kind::INTERFACE => interface(&*tokens, tree, start, at, depth),
         kind::CUSTOM => {
-            let t = take(tokens, s, kind::CUSTOM);
-            custom_value(&*tokens, tree, start, t, depth)
+            let word = take(tokens, at, kind::CUSTOM);
+            custom_value(&*tokens, tree, start, word, depth)
         }
-        kind::VALUETYPE => value(&*tokens, tree, start, s, depth),
-        _ => type_dcl(&*tokens, tree, s, depth),
+        kind::VALUETYPE => value(&*tokens, tree, start, at, depth),
+        _ => type_dcl(&*tokens, tree, at, depth),
     }
 }
 
@@ -84,63 +86,62 @@ fn starts_definition(kind: u32) -> bool
 }
 
 // What is defined, before its ";".
-fn defined(tokens: &[u32], tree: &mut [u32], start: Reading, s: Reading, depth: u32) -> Reading
-    requires { ⌜ Short (now tokens) ⌝ }
-    ensures { λ r. ⌜ Within one (now (tokens .entry)) depth start defined (s, now (tree .entry)) (r, now (tree .exit)) ⌝ }
+fn defined(tokens: &[u32], tree: &mut [u32], start: Reading, at: Reading, depth: u32) -> Reading
+    requires { ⌜ Addressable (now tokens) ⌝ }
+    ensures { λ r. ⌜ Within one (now (tokens .entry)) depth start defined (at, now (tree .entry)) (r, now (tree .exit)) ⌝ }
 {
-    let next = next_kind(tokens, s);
+    let next = next_kind(tokens, at);
     match next {
-        kind::MODULE => module_definition(&*tokens, tree, s, depth),
-        _ => other_definition(&*tokens, tree, start, s, depth),
+        kind::MODULE => module_definition(&*tokens, tree, at, depth),
+        _ => other_definition(&*tokens, tree, start, at, depth),
     }
 }
 
 // (2) definition
-fn definition(tokens: &[u32], tree: &mut [u32], s: Reading, depth: u32) -> Reading
-    requires { ⌜ Short (now tokens) ⌝ }
-    ensures { λ r. ⌜ Reads one (now (tokens .entry)) depth (call 2) (s, now (tree .entry)) (r, now (tree .exit)) ⌝ }
+fn definition(tokens: &[u32], tree: &mut [u32], at: Reading, depth: u32) -> Reading
+    requires { ⌜ Addressable (now tokens) ⌝ }
+    ensures { λ r. ⌜ Reads one (now (tokens .entry)) depth < "definition" > (at, now (tree .entry)) (r, now (tree .exit)) ⌝ }
 {
-    let t = defined(&*tokens, tree, s, s, depth);
-    let u = take(tokens, t, kind::SEMICOLON);
-    node(tree, s, u, 2)
+    let defined = defined(&*tokens, tree, at, at, depth);
+    let mark = take(tokens, defined, kind::SEMICOLON);
+    node(tree, at, mark, rule::DEFINITION)
 }
 
 // One or more definitions.
-fn definitions(tokens: &[u32], tree: &mut [u32], s: Reading, depth: u32) -> Reading
-    requires { ⌜ Short (now tokens) ⌝ }
-    ensures { λ r. ⌜ Reads one (now (tokens .entry)) depth definitions (s, now (tree .entry)) (r, now (tree .exit)) ⌝ }
+fn definitions(tokens: &[u32], tree: &mut [u32], at: Reading, depth: u32) -> Reading
+    requires { ⌜ Addressable (now tokens) ⌝ }
+    ensures { λ r. ⌜ Reads one (now (tokens .entry)) depth definitions (at, now (tree .entry)) (r, now (tree .exit)) ⌝ }
 {
-    let mut t = s;
+    let mut last = at;
     loop {
-        t = definition(&*tokens, tree, t, depth);
-        let next = next_kind(tokens, t);
-        if !starts_definition(next) {
-            return t;
+        last = definition(&*tokens, tree, last, depth);
+        if !starts_definition(next_kind(tokens, last)) {
+            return last;
         }
     }
 }
 
 // (3) module: its definitions are read at one level of depth less.
-fn module_definition(tokens: &[u32], tree: &mut [u32], s: Reading, depth: u32) -> Reading
-    requires { ⌜ Short (now tokens) ⌝ }
-    ensures { λ r. ⌜ Reads one (now (tokens .entry)) depth (call 3) (s, now (tree .entry)) (r, now (tree .exit)) ⌝ }
+fn module_definition(tokens: &[u32], tree: &mut [u32], at: Reading, depth: u32) -> Reading
+    requires { ⌜ Addressable (now tokens) ⌝ }
+    ensures { λ r. ⌜ Reads one (now (tokens .entry)) depth < "module" > (at, now (tree .entry)) (r, now (tree .exit)) ⌝ }
 {
-    let t = take(tokens, s, kind::MODULE);
-    let u = take(tokens, t, kind::IDENTIFIER);
-    let v = open(tokens, u, kind::OPEN_BRACE, depth);
-    if has_stopped(v) {
-        return v;
+    let word = take(tokens, at, kind::MODULE);
+    let name = take(tokens, word, kind::IDENTIFIER);
+    let inside = open(tokens, name, kind::OPEN_BRACE, depth);
+    if has_stopped(inside) {
+        return inside;
     }
-    let w = definitions(&*tokens, tree, v, depth - 1);
-    let x = take(tokens, w, kind::CLOSE_BRACE);
-    node(tree, s, x, 3)
+    let body = definitions(&*tokens, tree, inside, depth - 1);
+    let mark = take(tokens, body, kind::CLOSE_BRACE);
+    node(tree, at, mark, rule::MODULE)
 }
 
 // (1) specification
-pub fn specification(tokens: &[u32], tree: &mut [u32], s: Reading, depth: u32) -> Reading
-    requires { ⌜ Short (now tokens) ⌝ }
-    ensures { λ r. ⌜ Reads one (now (tokens .entry)) depth (call 1) (s, now (tree .entry)) (r, now (tree .exit)) ⌝ }
+pub fn specification(tokens: &[u32], tree: &mut [u32], at: Reading, depth: u32) -> Reading
+    requires { ⌜ Addressable (now tokens) ⌝ }
+    ensures { λ r. ⌜ Reads one (now (tokens .entry)) depth < "specification" > (at, now (tree .entry)) (r, now (tree .exit)) ⌝ }
 {
-    let t = definitions(&*tokens, tree, s, depth);
-    node(tree, s, t, 1)
+    let definitions = definitions(&*tokens, tree, at, depth);
+    node(tree, at, definitions, rule::SPECIFICATION)
 }

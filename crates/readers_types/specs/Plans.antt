@@ -1,36 +1,53 @@
--- The parts of plans that readers of types follow: kinds and rules by number, as in paper 01 and 000.
+-- The parts of plans that readers of types follow, in the notation of the rules.
 -- Assumes nothing: these are definitions.
 use Prim.Native.Nat.{ℕ}
-use Rattle.prediction.specs.Plan.{Plan, token, call, wrap, seq, alt, many, group, skip}
+use mathlib.Core.Bool.{cond}
+use mathlib.Core.List.{List, [], _∷_}
+use lib.Dec.{eqb}
+use mathlib.Core.Logic.{_⊎_}
+use mathlib.Core.Path.{_≡_}
+use Rattle.kinds.specs.Kinds.{kind-of}
+use Rattle.kinds.specs.Lists.{kinds-of}
+use Rattle.grammar.specs.Names.{rule}
+use Rattle.prediction.specs.plans.Plan.{Plan, token, call, wrap}
+use Rattle.readers_core.specs.Notation.{`_, <_>, make, _▸_, _∣_, ⟦_⟧, _*, _⟨_⟩_, list-of}
 
--- a bound between angle brackets
-abbrev pub bound : Plan
-bound = group 73 (call 41) 74
+-- the words of string types, in order of their kinds
+abbrev pub strings : List ℕ
+strings = kinds-of ("string" ∷ "wstring" ∷ [])
 
--- a string type, whose word is k, by rule r
+abbrev pub IsString : ℕ → Type 0
+IsString k = (k ≡ kind-of "string") ⊎ (k ≡ kind-of "wstring")
+
+-- the rule of such a type; its plan, where its word is k and its rule r: with a bound or without one
+abbrev pub string-rule : ℕ → ℕ
+string-rule k = cond (eqb k (kind-of "string")) (rule "string_type") (rule "wide_string_type")
+
 abbrev pub string-plan : (k r : ℕ) → Plan
-string-plan k r = seq (token k) (seq (alt bound skip) (wrap r))
+string-plan k r = token k ▸ ⟦ "<" ⟨ < "positive_int_const" > ⟩ ">" ⟧ ▸ wrap r
 
 -- the two bounds of a fixed-point type
 abbrev pub fixed-bounds : Plan
-fixed-bounds = group 73 (seq (call 41) (seq (token 68) (call 41))) 74
+fixed-bounds = "<" ⟨ < "positive_int_const" > ▸ ` "," ▸ < "positive_int_const" > ⟩ ">"
 
 -- behind the name of a declarator: array sizes or nothing
 abbrev pub behind-name : Plan
-behind-name = alt (seq (call 84) (seq (many (call 84)) (seq (wrap 83) (wrap 52)))) (wrap 51)
+behind-name =
+    < "fixed_array_size" > ▸ (< "fixed_array_size" > *) ▸ make "array_declarator" ▸ make "complex_declarator"
+    ∣ make "simple_declarator"
 
--- more of a list, behind a comma
-abbrev pub further : (r : ℕ) → Plan
-further r = many (seq (token 68) (call r))
+-- the rules whose uses stand in lists
+abbrev pub Listed : ℕ → Type 0
+Listed r = (r ≡ rule "declarator") ⊎ (r ≡ rule "enumerator")
 
 -- the enumerators of an enum
 abbrev pub enumerators : Plan
-enumerators = group 65 (seq (call 79) (further 79)) 66
+enumerators = "{" ⟨ list-of (rule "enumerator") ⟩ "}"
 
 -- the bound of a sequence, behind a comma, or none
 abbrev pub sequence-bound : Plan
-sequence-bound = alt (seq (token 68) (call 41)) skip
+sequence-bound = ⟦ ` "," ▸ < "positive_int_const" > ⟧
 
 -- what a sequence holds
 abbrev pub sequence-body : Plan
-sequence-body = group 73 (seq (call 45) sequence-bound) 74
+sequence-body = "<" ⟨ < "simple_type_spec" > ▸ sequence-bound ⟩ ">"

@@ -1,68 +1,62 @@
--- The parts of plans that readers of values follow: kinds and rules by number, as in paper 01 and 000.
+-- The parts of plans that readers of values follow, in the notation of the rules.
 -- Assumes nothing: these are definitions.
 use Prim.Native.Nat.{ℕ}
-use mathlib.Core.List.{List, _∷_}
-use Rattle.prediction.specs.Plan.{Plan, token, group, call, wrap, seq, alt, skip, many}
-use Rattle.readers_interfaces.specs.Plans.{further, listed, export-starts}
+use mathlib.Core.List.{List, [], _∷_, _++_}
+use Rattle.kinds.specs.Lists.{kinds-of}
+use Rattle.grammar.specs.Names.{rule}
+use Rattle.prediction.specs.plans.Plan.{Plan}
+use Rattle.readers_core.specs.Notation.{`_, <_>, make, _▸_, _∣_, ⟦_⟧, _*, _⟨_⟩_, further, list-of}
+use Rattle.readers_interfaces.specs.Plans.{export-starts}
 
 -- (19) the interfaces that a value supports; and those, if any
 abbrev pub supports : Plan
-supports = seq (token 54) (listed 11)
+supports = ` "supports" ▸ list-of (rule "interface_name")
 
 abbrev pub optional-supports : Plan
-optional-supports = alt supports skip
+optional-supports = ⟦ supports ⟧
 
 -- (19) the values that a value inherits from, and what it supports besides
 abbrev pub optional-truncatable : Plan
-optional-truncatable = alt (token 56) skip
+optional-truncatable = ⟦ ` "truncatable" ⟧
 
 abbrev pub inherits : Plan
-inherits = seq (token 67) (seq optional-truncatable (seq (call 20) (seq (many (further 20)) optional-supports)))
+inherits =
+    ` ":" ▸ optional-truncatable ▸ < "value_name" > ▸ further (rule "value_name") ▸ optional-supports
 
 -- bases, if any
 abbrev pub optional-bases : Plan
-optional-bases = alt (call 19) skip
+optional-bases = ⟦ < "value_inheritance_spec" > ⟧
 
 -- (22) "public" or "private"
 abbrev pub visibility : Plan
-visibility = alt (token 47) (token 46)
+visibility = ` "public" ∣ ` "private"
 
--- (23) parameters between parentheses, if any
+-- (23) parameters, if any
 abbrev pub optional-parameters : Plan
-optional-parameters = alt (call 24) skip
-
-abbrev pub initializer-parameters : Plan
-initializer-parameters = group 71 optional-parameters 72
+optional-parameters = ⟦ < "init_param_decls" > ⟧
 
 -- the kinds that (21) value_element may start with
 abbrev pub element-starts : List ℕ
-element-starts = 33 ∷ 46 ∷ 47 ∷ export-starts
-
--- bodies in braces: of a value, and of an abstract one
-abbrev pub braced-elements : Plan
-braced-elements = group 65 (many (call 21)) 66
-
-abbrev pub braced-exports : Plan
-braced-exports = group 65 (many (call 9)) 66
+element-starts = kinds-of ("factory" ∷ "private" ∷ "public" ∷ []) ++ export-starts
 
 -- behind the name of a value, of a value with a body, and of an abstract value with a body
 abbrev pub value-body : Plan
-value-body = seq optional-bases (seq (wrap 18) (seq braced-elements (wrap 17)))
+value-body = optional-bases ▸ make "value_header" ▸ "{" ⟨ < "value_element" > * ⟩ "}" ▸ make "value_dcl"
 
 abbrev pub abstract-body : Plan
-abstract-body = seq optional-bases (seq braced-exports (wrap 16))
+abstract-body = optional-bases ▸ "{" ⟨ < "export" > * ⟩ "}" ▸ make "value_abs_dcl"
 
 abbrev pub behind-name : Plan
-behind-name = alt value-body (alt (seq (call 44) (wrap 15)) (wrap 14))
+behind-name = value-body ∣ < "type_spec" > ▸ make "value_box_dcl" ∣ make "value_forward_dcl"
 
 -- a value, a custom one and an abstract one, from "valuetype" on, where a frame may have begun before it
 abbrev pub value-rest : Plan
-value-rest = seq (token 60) (seq (token 1) (seq behind-name (wrap 13)))
+value-rest = ` "valuetype" ▸ < "identifier" > ▸ behind-name ▸ make "value"
 
 abbrev pub custom-rest : Plan
 custom-rest =
-    seq (token 60)
-    (seq (token 1) (seq optional-bases (seq (wrap 18) (seq braced-elements (seq (wrap 17) (wrap 13))))))
+    ` "valuetype" ▸ < "identifier" > ▸ optional-bases ▸ make "value_header" ▸ "{" ⟨ < "value_element" > * ⟩ "}" ▸
+    make "value_dcl" ▸ make "value"
 
 abbrev pub abstract-rest : Plan
-abstract-rest = seq (token 60) (seq (token 1) (seq (alt abstract-body (wrap 14)) (wrap 13)))
+abstract-rest = ` "valuetype" ▸ < "identifier" > ▸ (abstract-body ∣ make "value_forward_dcl") ▸ make "value"

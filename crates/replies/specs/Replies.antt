@@ -5,12 +5,20 @@ use Prim.Native.Nat.{ℕ}
 use lib.Dec.{eqb}
 use Rattle.replies.specs.declared.Reply.{Reply}
 
+-- a reply is four numbers
+abbrev pub reply-width : ℕ
+reply-width = 4
+
 abbrev pub reply : (number place tokens records : ℕ) → Reply
 reply number place tokens records = record { number = number; place = place; tokens = tokens; records = records }
 
+-- the number of every acceptance
+abbrev pub accepted-number : ℕ
+accepted-number = 0
+
 -- 0: accepted; the text length, both counts
 abbrev pub accepted : (text tokens records : ℕ) → Reply
-accepted text tokens records = reply 0 text tokens records
+accepted text tokens records = reply accepted-number text tokens records
 
 -- 1: text too long or depth setting outside its range
 abbrev pub outside-limits : Reply

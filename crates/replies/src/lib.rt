@@ -1,4 +1,6 @@
-// What the reader says: a number, a place in bytes, a token count and a record count. Each row of the paper's table has its constructor.
+// What the reader says: a number, a place in bytes, a token count and a record count.
+//
+// Each row of the paper's table has its constructor.
 ghost use mathlib.Core.Path.{_≡_};
 ghost use Rattle.replies.specs.Replies as rows;
 
@@ -11,6 +13,12 @@ pub struct Reply {
 }
 
 impl Reply {
+    // The numbers of a reply.
+    pub const WIDTH: usize = 4;
+
+    // The number of every acceptance, and of no refusal.
+    pub const ACCEPTED: u32 = 0;
+
     fn of(number: u32, place: u32, tokens: u32, records: u32) -> Reply
         ensures { λ r. ⌜ r ≡ rows.reply number place tokens records ⌝ }
     {
@@ -25,7 +33,7 @@ impl Reply {
     pub fn accepted(text: u32, tokens: u32, records: u32) -> Reply
         ensures { λ r. ⌜ r ≡ rows.accepted text tokens records ⌝ }
     {
-        Reply::of(0, text, tokens, records)
+        Reply::of(Reply::ACCEPTED, text, tokens, records)
     }
 
     pub fn outside_limits() -> Reply

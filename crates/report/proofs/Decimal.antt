@@ -8,26 +8,26 @@ use native.Mathlib.Omega.{arith}
 use borrow.Author.Tests.{lt-ltb, le-ltb}
 use lib.Dec.{ltb}
 use Rattle.io.specs.Digits.{Fewest}
-use Rattle.report.specs.Report.{width}
+use Rattle.report.specs.Report.{base, width}
 
 one-less : (j : ℕ) → suc j - 1 ≡ j
 one-less j = omega arith
 
-pub width-fewest : (besides k n : ℕ) → n < 10 ^ suc besides → Fewest 10 1 n k → k ≡ width besides n
+pub width-fewest : (besides k n : ℕ) → n < base ^ suc besides → Fewest base 1 n k → k ≡ width besides n
 unfolding width
 width-fewest besides zero n h f = absurd (omega (arith, f .0))
 width-fewest zero (suc zero) n h f = refl
 width-fewest zero (suc (suc j)) n h f =
-    let low : 10 ^ suc j ≤ n = subst (λ (i : ℕ). 10 ^ i ≤ n) (one-less (suc j)) (f .2 (omega arith)) in
-    absurd (omega (arith, pow-succ' 10 j, pow-succ' 10 0, one-le-pow j 10 (omega arith)))
+    let low : base ^ suc j ≤ n = subst (λ (i : ℕ). base ^ i ≤ n) (one-less (suc j)) (f .2 (omega arith)) in
+    absurd (omega (arith, pow-succ' base j, pow-succ' base 0, one-le-pow j base (omega arith)))
 width-fewest (suc besides) (suc zero) n h f =
-    let low : n < 10 = f .1 in
-    simp (lt-ltb n 10 low)
+    let low : n < base = f .1 in
+    simp (lt-ltb n base low)
 width-fewest (suc besides) (suc (suc j)) n h f =
-    let low : 10 ^ suc j ≤ n = subst (λ (i : ℕ). 10 ^ i ≤ n) (one-less (suc j)) (f .2 (omega arith)) in
-    let ten : 10 ≤ n = omega (arith, pow-succ' 10 j, one-le-pow j 10 (omega arith)) in
-    rw (le-ltb n 10 ten) (ap suc (width-fewest besides (suc j) (n / 10) (omega (arith, pow-succ' 10 (suc besides)))
-    (omega arith, omega (arith, f .1, pow-succ' 10 (suc j)), (λ _. rw (one-less j) (omega (arith, pow-succ' 10 j))))))
+    let low : base ^ suc j ≤ n = subst (λ (i : ℕ). base ^ i ≤ n) (one-less (suc j)) (f .2 (omega arith)) in
+    let more : base ≤ n = omega (arith, pow-succ' base j, one-le-pow j base (omega arith)) in
+    rw (le-ltb n base more) (ap suc (width-fewest besides (suc j) (n / base) (omega (arith, pow-succ' base (suc besides)))
+    (omega arith, omega (arith, f .1, pow-succ' base (suc j)), (λ _. rw (one-less j) (omega (arith, pow-succ' base j))))))
 
 either-most : (b : Bool) (k m : ℕ) → k ≤ m → cond b 1 (suc k) ≤ suc m
 either-most true k m h = omega arith
@@ -36,4 +36,4 @@ either-most false k m h = omega arith
 pub width-most : (besides n : ℕ) → width besides n ≤ suc besides
 unfolding width
 width-most zero n = omega arith
-width-most (suc besides) n = either-most (ltb n 10) (width besides (n / 10)) (suc besides) (width-most besides (n / 10))
+width-most (suc besides) n = either-most (ltb n base) (width besides (n / base)) (suc besides) (width-most besides (n / base))

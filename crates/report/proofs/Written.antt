@@ -9,7 +9,9 @@ use lib.ListN.{length, set, getD, take, drop}
 use lib.Seq.{take-suc-set, drop-cons, length-take-le}
 use Rattle.io.specs.Counts.{Counts}
 use Rattle.replies.specs.declared.Reply.{Reply}
-use Rattle.report.specs.Report.{number, line, acceptance, refusal, report}
+use Rattle.replies.specs.Replies as replies
+use Rattle.tables.specs.Tables.{node-width}
+use Rattle.report.specs.Report.{blank, line-end, number, line, acceptance, refusal, report}
 
 pub then : (p x y : List ℕ) {q r : List ℕ} → q ≡ p ++ x → r ≡ q ++ y → r ≡ p ++ (x ++ y)
 then p x y e d = d ∙ ap (λ (l : List ℕ). l ++ y) e ∙ append-assoc p x y
@@ -26,22 +28,22 @@ end-word out k v p x h e =
     then p x (v ∷ []) e (ap (λ (i : ℕ). take i (set out k v)) d ∙ take-suc-set out k v h)
 
 -- the numbers of a line, put one by one
-pub line-of-two : (p : List ℕ) (a b : ℕ) {q r : List ℕ} → q ≡ p ++ (number a ++ 32 ∷ []) → r ≡ q ++ (number b ++ 10 ∷ []) →
+pub line-of-two : (p : List ℕ) (a b : ℕ) {q r : List ℕ} → q ≡ p ++ (number a ++ blank ∷ []) → r ≡ q ++ (number b ++ line-end ∷ []) →
     r ≡ p ++ line (a ∷ b ∷ [])
 unfolding line
-line-of-two p a b e d = then-word p (number a) 32 (number b ++ 10 ∷ []) e d
+line-of-two p a b e d = then-word p (number a) blank (number b ++ line-end ∷ []) e d
 
-pub line-of-four : (p : List ℕ) (a b c d : ℕ) {q r s t : List ℕ} → q ≡ p ++ (number a ++ 32 ∷ []) →
-    r ≡ q ++ (number b ++ 32 ∷ []) → s ≡ r ++ (number c ++ 32 ∷ []) → t ≡ s ++ (number d ++ 10 ∷ []) →
+pub line-of-four : (p : List ℕ) (a b c d : ℕ) {q r s t : List ℕ} → q ≡ p ++ (number a ++ blank ∷ []) →
+    r ≡ q ++ (number b ++ blank ∷ []) → s ≡ r ++ (number c ++ blank ∷ []) → t ≡ s ++ (number d ++ line-end ∷ []) →
     t ≡ p ++ line (a ∷ b ∷ c ∷ d ∷ [])
 unfolding line
 line-of-four p a b c d {q} {r} first second third fourth =
-    then-word p (number a) 32 (line (b ∷ c ∷ d ∷ [])) first
-    (then-word q (number b) 32 (line (c ∷ d ∷ [])) second (line-of-two r c d third fourth))
+    then-word p (number a) blank (line (b ∷ c ∷ d ∷ [])) first
+    (then-word q (number b) blank (line (c ∷ d ∷ [])) second (line-of-two r c d third fourth))
 
 -- the four numbers of a record
-four : (l : List ℕ) (i : ℕ) → i + 4 ≤ length l →
-    take 4 (drop i l) ≡ getD l i 0 ∷ getD l (i + 1) 0 ∷ getD l (i + 2) 0 ∷ getD l (i + 3) 0 ∷ []
+four : (l : List ℕ) (i : ℕ) → i + node-width ≤ length l →
+    take node-width (drop i l) ≡ getD l i 0 ∷ getD l (i + 1) 0 ∷ getD l (i + 2) 0 ∷ getD l (i + 3) 0 ∷ []
 four l i h =
     let e : i + 1 ≡ suc i = omega arith in
     let d : i + 2 ≡ suc (suc i) = omega arith in
@@ -56,16 +58,16 @@ four l i h =
       drop-cons l (suc (suc (suc i))) 0 (omega arith),
     )
 
-pub line-of-record : (p l : List ℕ) (i : ℕ) {q : List ℕ} → i + 4 ≤ length l →
-    q ≡ p ++ line (getD l i 0 ∷ getD l (i + 1) 0 ∷ getD l (i + 2) 0 ∷ getD l (i + 3) 0 ∷ []) → q ≡ p ++ line (take 4 (drop i l))
+pub line-of-record : (p l : List ℕ) (i : ℕ) {q : List ℕ} → i + node-width ≤ length l →
+    q ≡ p ++ line (getD l i 0 ∷ getD l (i + 1) 0 ∷ getD l (i + 2) 0 ∷ getD l (i + 3) 0 ∷ []) → q ≡ p ++ line (take node-width (drop i l))
 line-of-record p l i h e = e ∙ ap (λ (numbers : List ℕ). p ++ line numbers) (sym (four l i h))
 
 -- the report by its first number
-pub reports-acceptance : (r : Reply) (tree : List ℕ) → r .number ≡ 0 → acceptance r tree ≡ report r tree
+pub reports-acceptance : (r : Reply) (tree : List ℕ) → r .number ≡ replies.accepted-number → acceptance r tree ≡ report r tree
 unfolding report
 reports-acceptance r tree e = simp (eq-eqb _ _ e)
 
-pub reports-refusal : (r : Reply) (tree : List ℕ) → (r .number ≡ 0 → ⊥) → refusal r ≡ report r tree
+pub reports-refusal : (r : Reply) (tree : List ℕ) → (r .number ≡ replies.accepted-number → ⊥) → refusal r ≡ report r tree
 unfolding report
 reports-refusal r tree e = simp (ne-eqb _ _ e)
 

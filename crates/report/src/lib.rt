@@ -7,7 +7,22 @@ ghost use Prim.Native.Nat.{_+_, _*_, _≤_};
 ghost use lib.ListN.{length, take, drop};
 ghost use Rattle.io.specs.Counts.{Counts};
 ghost use Rattle.report.specs.Report.{number, line, lines, refusal, acceptance, report};
+ghost use Rattle.report.specs.Report.{further-digits, number-size, line-size, first-line-size};
+ghost use Rattle.tables.specs.Tables.{node-width};
 use replies::Reply;
+use tables::NODE_WIDTH;
+
+// The most bytes that a number takes with the byte after it.
+pub const NUMBER_SIZE: usize = 11;
+
+// The bytes of a refusal's word, with the blank after it.
+const REFUSED_SIZE: usize = 8;
+
+// The most bytes of the first line: those of a refusal, which has every number of its reply.
+pub const FIRST_LINE_SIZE: usize = REFUSED_SIZE + Reply::WIDTH * NUMBER_SIZE;
+
+// The most digits of a number that `io` writes.
+const DIGITS: usize = 20;
 
 fn put(out: &mut [u8], at: usize, bytes: &[u8]) -> usize
     requires { ⌜ at + length (now bytes) ≤ length (now out) ⌝ }
@@ -23,9 +38,9 @@ fn put(out: &mut [u8], at: usize, bytes: &[u8]) -> usize
 }
 
 // The decimal digits of a number, at the start of a lent array.
-fn spell(n: u32, digits: &mut [u8; 20]) -> usize
+fn spell(n: u32, digits: &mut [u8; DIGITS]) -> usize
     ensures counts { λ r. ⌜ Counts r (now (digits .exit)) ⌝ }
-    ensures most { λ r. ⌜ r ≤ 10 ⌝ }
+    ensures most { λ r. ⌜ r ≤ further-digits + 1 ⌝ }
     ensures written { λ r. ⌜ take r (now (digits .exit)) ≡ number n ⌝ }
 {
     io::decimal(n as u64, digits)
@@ -33,35 +48,35 @@ fn spell(n: u32, digits: &mut [u8; 20]) -> usize
 
 // A number, and the byte that stands after it.
 fn put_number(out: &mut [u8], at: usize, n: u32, after: u8) -> usize
-    requires { ⌜ at + 11 ≤ length (now out) ⌝ }
+    requires { ⌜ at + number-size ≤ length (now out) ⌝ }
     ensures written { λ r. ⌜ take r (now (out .exit)) ≡ take at (now (out .entry)) ++ (number n ++ after ∷ []) ⌝ }
-    ensures end { λ r. ⌜ r ≤ at + 11 ⌝ }
+    ensures end { λ r. ⌜ r ≤ at + number-size ⌝ }
 {
-    let mut digits = [0u8; 20];
-    let k = spell(n, &mut digits);
-    let end = put(out, at, &digits[..k]);
+    let mut digits = [0u8; DIGITS];
+    let size = spell(n, &mut digits);
+    let end = put(out, at, &digits[..size]);
     out[end] = after;
     end + 1
 }
 
 // Four numbers on a line.
-fn put_line(out: &mut [u8], at: usize, a: u32, b: u32, c: u32, d: u32) -> usize
-    requires { ⌜ at + 44 ≤ length (now out) ⌝ }
-    ensures written { λ r. ⌜ take r (now (out .exit)) ≡ take at (now (out .entry)) ++ line (a ∷ b ∷ c ∷ d ∷ []) ⌝ }
-    ensures end { λ r. ⌜ r ≤ at + 44 ⌝ }
+fn put_line(out: &mut [u8], at: usize, first: u32, second: u32, third: u32, fourth: u32) -> usize
+    requires { ⌜ at + line-size ≤ length (now out) ⌝ }
+    ensures written { λ r. ⌜ take r (now (out .exit)) ≡ take at (now (out .entry)) ++ line (first ∷ second ∷ third ∷ fourth ∷ []) ⌝ }
+    ensures end { λ r. ⌜ r ≤ at + line-size ⌝ }
 {
-    let second = put_number(out, at, a, b' ');
-    let third = put_number(out, second, b, b' ');
-    let fourth = put_number(out, third, c, b' ');
-    put_number(out, fourth, d, b'\n')
+    let past_first = put_number(out, at, first, b' ');
+    let past_second = put_number(out, past_first, second, b' ');
+    let past_third = put_number(out, past_second, third, b' ');
+    put_number(out, past_third, fourth, b'\n')
 }
 
 // The record at a place of the tree.
 fn put_record(out: &mut [u8], at: usize, tree: &[u32], from: usize) -> usize
-    requires { ⌜ at + 44 ≤ length (now out) ⌝ }
-    requires { ⌜ from + 4 ≤ length (now tree) ⌝ }
-    ensures written { λ r. ⌜ take r (now (out .exit)) ≡ take at (now (out .entry)) ++ line (take 4 (drop from (now (tree .entry)))) ⌝ }
-    ensures end { λ r. ⌜ r ≤ at + 44 ⌝ }
+    requires { ⌜ at + line-size ≤ length (now out) ⌝ }
+    requires { ⌜ from + node-width ≤ length (now tree) ⌝ }
+    ensures written { λ r. ⌜ take r (now (out .exit)) ≡ take at (now (out .entry)) ++ line (take node-width (drop from (now (tree .entry)))) ⌝ }
+    ensures end { λ r. ⌜ r ≤ at + line-size ⌝ }
 {
     put_line(
         out,
@@ -75,7 +90,7 @@ fn put_record(out: &mut [u8], at: usize, tree: &[u32], from: usize) -> usize
 
 // So many records of the tree, as far as the table has them.
 fn put_records(out: &mut [u8], at: usize, tree: &[u32], records: u32) -> usize
-    requires { ⌜ at + 11 * length (now tree) ≤ length (now out) ⌝ }
+    requires { ⌜ at + number-size * length (now tree) ≤ length (now out) ⌝ }
     ensures written { λ r. ⌜ take r (now (out .exit)) ≡ take at (now (out .entry)) ++ lines records (now (tree .entry)) ⌝ }
     ensures end { λ r. ⌜ r ≤ length (now (out .entry)) ⌝ }
 {
@@ -83,18 +98,18 @@ fn put_records(out: &mut [u8], at: usize, tree: &[u32], records: u32) -> usize
     let mut from = 0;
     let mut n = 0;
     while n < records {
-        if tree.len() - from < 4 {
+        if tree.len() - from < NODE_WIDTH {
             return end;
         }
         end = put_record(out, end, tree, from);
-        from += 4;
+        from += NODE_WIDTH;
         n += 1;
     }
     end
 }
 
 fn put_refusal(out: &mut [u8], reply: Reply) -> usize
-    requires { ⌜ 52 ≤ length (now out) ⌝ }
+    requires { ⌜ first-line-size ≤ length (now out) ⌝ }
     ensures written { λ r. ⌜ take r (now (out .exit)) ≡ refusal reply ⌝ }
     ensures end { λ r. ⌜ r ≤ length (now (out .entry)) ⌝ }
 {
@@ -110,23 +125,23 @@ fn put_refusal(out: &mut [u8], reply: Reply) -> usize
 }
 
 fn put_acceptance(out: &mut [u8], reply: Reply, tree: &[u32]) -> usize
-    requires { ⌜ 52 + 11 * length (now tree) ≤ length (now out) ⌝ }
+    requires { ⌜ first-line-size + number-size * length (now tree) ≤ length (now out) ⌝ }
     ensures written { λ r. ⌜ take r (now (out .exit)) ≡ acceptance reply (now (tree .entry)) ⌝ }
     ensures end { λ r. ⌜ r ≤ length (now (out .entry)) ⌝ }
 {
     let at = put(out, 0, b"accepted ");
-    let second = put_number(out, at, reply.tokens, b' ');
-    let end = put_number(out, second, reply.records, b'\n');
+    let past_tokens = put_number(out, at, reply.tokens, b' ');
+    let end = put_number(out, past_tokens, reply.records, b'\n');
     put_records(out, end, tree, reply.records)
 }
 
 // The whole report, from the start of a slice that has room for any tree of this table.
 pub fn put_report(out: &mut [u8], reply: Reply, tree: &[u32]) -> usize
-    requires { ⌜ 52 + 11 * length (now tree) ≤ length (now out) ⌝ }
+    requires { ⌜ first-line-size + number-size * length (now tree) ≤ length (now out) ⌝ }
     ensures written { λ r. ⌜ take r (now (out .exit)) ≡ report reply (now (tree .entry)) ⌝ }
     ensures counts { λ r. ⌜ Counts r (now (out .exit)) ⌝ }
 {
-    if reply.number == 0 {
+    if reply.number == Reply::ACCEPTED {
         put_acceptance(out, reply, tree)
     } else {
         put_refusal(out, reply)

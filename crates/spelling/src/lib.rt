@@ -1,8 +1,11 @@
 // The bytes of one token, handed back as that part of the caller's text.
 ghost use mathlib.Core.Path.{_≡_};
-ghost use Prim.Native.Nat.{_<_, _^_};
 ghost use lib.ListN.{length};
 ghost use Rattle.spelling.specs.Spelling as specs;
+use tables::TOKEN_FIRST;
+use tables::TOKEN_LENGTH;
+use tables::TOKEN_WIDTH;
+use tables::index;
 
 // A part of a text: its first byte and its length in bytes.
 #[repr(C)]
@@ -15,10 +18,10 @@ pub struct Span {
 pub fn locate(text: &[u8], tokens: &[u32], i: usize) -> Span
     ensures { λ r. ⌜ r ≡ specs.located (length (now (text .entry))) (now (tokens .entry)) i ⌝ }
 {
-    if i < tokens.len() / 3 {
-        let first = tokens[3 * i + 1];
-        let length = tokens[3 * i + 2];
-        if wide(first) + wide(length) <= text.len() {
+    if i < tokens.len() / TOKEN_WIDTH {
+        let first = tokens[TOKEN_WIDTH * i + TOKEN_FIRST];
+        let length = tokens[TOKEN_WIDTH * i + TOKEN_LENGTH];
+        if index(first) + index(length) <= text.len() {
             return Span { first, length };
         }
     }
@@ -33,13 +36,7 @@ pub fn spelling<'a>(text: &'a [u8], tokens: &[u32], i: usize) -> &'a [u8]
     ensures { λ r. ⌜ now r ≡ specs.spelling (now (text .entry)) (now (tokens .entry)) i ⌝ }
 {
     let part = locate(text, tokens, i);
-    let first = wide(part.first);
-    let end = first + wide(part.length);
+    let first = index(part.first);
+    let end = first + index(part.length);
     &text[first..end]
-}
-
-fn wide(x: u32) -> usize
-    ensures { λ r. ⌜ (r ≡ x) × (r < 2 ^ 32) ⌝ }
-{
-    x as usize
 }

@@ -1,4 +1,4 @@
--- Laws of record tables: lengths are kept, records stored in two goes are stored in one, and records that all fit stand in a row.
+-- Laws of record tables: lengths are kept, two goes of storing are one, and records that all fit stand in a row.
 -- By induction on the list of records. Assumes nothing.
 use mathlib.Core.Bool.{Bool, true, false, cond}
 use mathlib.Core.List.{List, [], _∷_, _++_, append-assoc}

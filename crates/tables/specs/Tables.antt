@@ -3,14 +3,25 @@
 use mathlib.Core.Bool.{cond}
 use mathlib.Core.List.{List, [], _∷_, _++_}
 use mathlib.Core.Path.{_≡_}
-use Prim.Native.Nat.{ℕ, suc, _+_, _*_, _/_}
+use Prim.Native.Nat.{ℕ, suc, _+_, _*_, _/_, _^_}
 use lib.Dec.{leb}
 use lib.ListN.{length, drop, replicate}
 use lib.Seq.{sets}
 
--- "A token record is three 32-bit numbers"
+-- a number of a record has 32 bits
+abbrev pub number-end : ℕ
+number-end = 2 ^ 32
+
+-- "A token record is three 32-bit numbers": kind, first byte, length
 abbrev pub token-width : ℕ
 token-width = 3
+
+-- which of them, from 0 on, is the first byte, and which the length
+abbrev pub token-first : ℕ
+token-first = 1
+
+abbrev pub token-length : ℕ
+token-length = 2
 
 -- "A tree record is four"
 abbrev pub node-width : ℕ

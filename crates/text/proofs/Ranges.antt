@@ -2,11 +2,13 @@
 -- By induction on the interval's length. Assumes nothing.
 use mathlib.Core.Path.{_≡_, refl, subst}
 use mathlib.Core.Bool.{Bool, true, false, _&&_, _||_}
+use mathlib.Core.List.{List}
 use mathlib.Core.Logic.{⊎-elim}
-use Prim.Native.Nat.{ℕ, zero, suc, _+_, _≤_, _<_}
+use Prim.Native.Nat.{ℕ, zero, suc, _+_, _-_, _≤_, _<_}
 use native.Mathlib.Nat.{eq-or-lt-of-le}
 use native.Mathlib.Omega.{arith}
 use lib.Dec.{T}
+use mir.Val.{hasKey}
 
 -- two truth values are the same
 abbrev pub agree : Bool → Bool → Bool
@@ -47,3 +49,12 @@ within class value lo n t b h = agreed value (class b) (every-at (λ k. agree va
 pub or-else : (a b : Bool) → T (a || b) → (T a → ⊥) → T b
 or-else true b t n = absurd (n tt)
 or-else false b t n = t
+
+-- the test passes from lo up to hi, which is apart, but at the keys
+abbrev pub but-keys : List ℕ → (ℕ → Bool) → ℕ → ℕ → Bool
+but-keys keys test lo hi = every (λ k. hasKey keys k || test k) lo (hi - lo)
+
+pub apart : (keys : List ℕ) (test : ℕ → Bool) (lo hi : ℕ) → T (but-keys keys test lo hi) →
+    {b : ℕ} → (lo ≤ b) × (b < hi) → (T (hasKey keys b) → ⊥) → T (test b)
+apart keys test lo hi t {b} h no-key =
+    or-else (hasKey keys b) (test b) (every-at (λ k. hasKey keys k || test k) lo (hi - lo) t (h .0) (omega arith)) no-key

@@ -1,6 +1,6 @@
 -- The bytes of a class in a row, as a loop passes them one by one.
 -- By induction on the text. Assumes nothing.
-use mathlib.Core.Path.{_≡_, refl, ap, _∙_}
+use mathlib.Core.Path.{_≡_, refl, sym, ap, _∙_}
 use mathlib.Core.Bool.{Bool, true, false, cond}
 use mathlib.Core.List.{List, [], _∷_}
 use Prim.Native.Nat.{ℕ, zero, suc, _+_, _≤_, _<_}
@@ -15,6 +15,10 @@ pub at-inside : (bs : List ℕ) (n : ℕ) → n < length bs → getD bs n 0 ≡ 
 at-inside [] n h = absurd (omega arith)
 at-inside (b ∷ bs) zero h = refl
 at-inside (b ∷ bs) (suc n) h = at-inside bs n (omega arith)
+
+-- what a test says of the byte that the code reads, it says of the definitions' byte
+pub seen : (bs : List ℕ) {n : ℕ} → n < length bs → {B : Type 0} (f : ℕ → B) {r v : B} → r ≡ f (getD bs n 0) → r ≡ v → f (at bs n) ≡ v
+seen bs {n} h f e t = sym (ap f (at-inside bs n h)) ∙ sym e ∙ t
 
 -- one byte of the class more
 run-more : (class : ℕ → Bool) (b : ℕ) (bs : List ℕ) → class b ≡ true → run class (b ∷ bs) ≡ suc (run class bs)

@@ -37,13 +37,17 @@ wordly b = letter b || (digit b || eqb b (code "_"))
 unfoldable pub line-end : ℕ → Bool
 line-end b = eqb b 10 || eqb b 13
 
--- the text has ended: past its last byte stands 256, which is no byte
-unfoldable pub ended : ℕ → Bool
-ended b = eqb b 256
+-- what stands past the last byte of a text: no byte
+abbrev pub end : ℕ
+end = 256
 
--- the byte n places on; 256 past the end of the text
+-- the text has ended
+unfoldable pub ended : ℕ → Bool
+ended b = eqb b end
+
+-- the byte n places on, or the end
 abbrev pub at : List ℕ → ℕ → ℕ
-at bs n = getD bs n 256
+at bs n = getD bs n end
 
 -- how many bytes of the class stand in a row at the front
 unfoldable pub run : (ℕ → Bool) → List ℕ → ℕ

@@ -32,3 +32,7 @@ member Ordinary = ordinary
 -- the bytes that are passed whole or not at all
 abbrev pub block : ℕ
 block = 8
+
+-- the bytes among which the end of a word or of a string is looked for
+abbrev pub window : ℕ
+window = 32

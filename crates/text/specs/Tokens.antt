@@ -21,7 +21,7 @@ unfoldable pub before : List ℕ → Tokens → Tokens
 before t (tokens ts) = tokens (t ∷ ts)
 before t (fault number place) = fault number place
 
--- what a lexeme at a place is, with what follows it
+-- what a lexeme at a place is, with what follows it; a fault has the number of its reply
 unfoldable pub then : Lexeme → ℕ → (ℕ → Tokens) → Tokens
 unfolding before
 then (Blank n) place rest = rest n

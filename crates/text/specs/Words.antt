@@ -6,14 +6,18 @@ use Prim.Native.Char.{code}
 use Prim.Native.Nat.{ℕ, suc, _+_}
 use lib.Dec.{eqb, ltb}
 use lib.ListN.{take, drop}
-use Rattle.kinds.specs.Kinds.{keywords, keyword, search-from, identifier}
+use Rattle.kinds.specs.Kinds.{first-keyword, keywords, keyword, search-from, identifier}
 use Rattle.text.specs.Bytes.{from, run, wordly}
 use Rattle.text.specs.declared.Lexeme.{Lexeme}
 use Rattle.text.specs.declared.Lexeme.the-variants.{Token, OtherCase}
 
+-- how far a letter in lower case stands behind its capital
+abbrev pub case-distance : ℕ
+case-distance = 32
+
 -- a letter in lower case; any other byte as it is
 unfoldable pub lower : ℕ → ℕ
-lower b = cond (from (code "A") (code "Z") b) (b + 32) b
+lower b = cond (from (code "A") (code "Z") b) (b + case-distance) b
 
 -- two spellings are the same, the case of letters aside
 unfoldable pub same-but-case : List ℕ → List ℕ → Bool
@@ -25,8 +29,8 @@ same-but-case (x ∷ xs) (y ∷ ys) = eqb (lower x) (lower y) && same-but-case x
 
 -- the kind of the keyword that w differs from at most in the case of letters; 0 where there is none
 unfoldable pub keyword-but-case : List ℕ → ℕ
-unfolding search-from same-but-case keywords
-keyword-but-case w = search-from 16 same-but-case w keywords
+unfolding same-but-case
+keyword-but-case w = search-from first-keyword same-but-case w keywords
 
 -- the letters, digits and underscores of a word
 unfoldable pub spelled : List ℕ → List ℕ

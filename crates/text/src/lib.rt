@@ -53,102 +53,119 @@ pub enum Class {
     Ordinary,
 }
 
-pub fn is_space(b: u8) -> bool
-    ensures { λ r. ⌜ r ≡ space b ⌝ }
+pub fn is_space(byte: u8) -> bool
+    ensures { λ r. ⌜ r ≡ space byte ⌝ }
 {
-    ((9 <= b) & (b <= 13)) | (b == b' ')
+    ((b'\t' <= byte) & (byte <= b'\r')) | (byte == b' ')
 }
 
-pub fn is_letter(b: u8) -> bool
-    ensures { λ r. ⌜ r ≡ letter b ⌝ }
+pub fn is_letter(byte: u8) -> bool
+    ensures { λ r. ⌜ r ≡ letter byte ⌝ }
 {
-    ((b'A' <= b) & (b <= b'Z')) | ((b'a' <= b) & (b <= b'z'))
+    ((b'A' <= byte) & (byte <= b'Z')) | ((b'a' <= byte) & (byte <= b'z'))
 }
 
-pub fn is_digit(b: u8) -> bool
-    ensures { λ r. ⌜ r ≡ digit b ⌝ }
+pub fn is_digit(byte: u8) -> bool
+    ensures { λ r. ⌜ r ≡ digit byte ⌝ }
 {
-    (b'0' <= b) & (b <= b'9')
+    (b'0' <= byte) & (byte <= b'9')
 }
 
-pub fn is_octal(b: u8) -> bool
-    ensures { λ r. ⌜ r ≡ octal b ⌝ }
+pub fn is_octal(byte: u8) -> bool
+    ensures { λ r. ⌜ r ≡ octal byte ⌝ }
 {
-    (b'0' <= b) & (b <= b'7')
+    (b'0' <= byte) & (byte <= b'7')
 }
 
-pub fn is_hexadecimal(b: u8) -> bool
-    ensures { λ r. ⌜ r ≡ hexadecimal b ⌝ }
+pub fn is_hexadecimal(byte: u8) -> bool
+    ensures { λ r. ⌜ r ≡ hexadecimal byte ⌝ }
 {
-    is_digit(b) | (((b'A' <= b) & (b <= b'F')) | ((b'a' <= b) & (b <= b'f')))
+    is_digit(byte) | (((b'A' <= byte) & (byte <= b'F')) | ((b'a' <= byte) & (byte <= b'f')))
 }
 
-pub fn is_wordly(b: u8) -> bool
-    ensures { λ r. ⌜ r ≡ wordly b ⌝ }
+pub fn is_wordly(byte: u8) -> bool
+    ensures { λ r. ⌜ r ≡ wordly byte ⌝ }
 {
-    is_letter(b) | (is_digit(b) | (b == b'_'))
+    is_letter(byte) | (is_digit(byte) | (byte == b'_'))
 }
 
-pub fn is_in_line(b: u8) -> bool
-    ensures { λ r. ⌜ r ≡ in-line b ⌝ }
+pub fn is_in_line(byte: u8) -> bool
+    ensures { λ r. ⌜ r ≡ in-line byte ⌝ }
 {
-    !((b == 10) | (b == 13))
+    !((byte == b'\n') | (byte == b'\r'))
 }
 
-pub fn is_starless(b: u8) -> bool
-    ensures { λ r. ⌜ r ≡ starless b ⌝ }
+pub fn is_starless(byte: u8) -> bool
+    ensures { λ r. ⌜ r ≡ starless byte ⌝ }
 {
-    b != b'*'
+    byte != b'*'
 }
+
+// What ISO Latin-1 has above ASCII, its controls aside.
+const FIRST_LATIN: u8 = 160;
+
+const LAST_LATIN: u8 = 255;
 
 // A byte that stands for itself in a literal.
-pub fn is_plain(b: u8) -> bool
-    ensures { λ r. ⌜ r ≡ plain b ⌝ }
+pub fn is_plain(byte: u8) -> bool
+    ensures { λ r. ⌜ r ≡ plain byte ⌝ }
 {
-    ((32 <= b) & (b <= 126)) | ((160 <= b) & (b <= 255))
+    ((b' ' <= byte) & (byte <= b'~')) | ((FIRST_LATIN <= byte) & (byte <= LAST_LATIN))
 }
 
-pub fn is_ordinary(b: u8) -> bool
-    ensures { λ r. ⌜ r ≡ ordinary b ⌝ }
+pub fn is_ordinary(byte: u8) -> bool
+    ensures { λ r. ⌜ r ≡ ordinary byte ⌝ }
 {
-    (b != b'\\') & ((b != b'"') & is_plain(b))
+    (byte != b'\\') & ((byte != b'"') & is_plain(byte))
 }
 
 // Whether a byte belongs to a class.
-pub fn is_in(class: Class, b: u8) -> bool
-    ensures { λ r. ⌜ r ≡ member class b ⌝ }
+pub fn is_in(class: Class, byte: u8) -> bool
+    ensures { λ r. ⌜ r ≡ member class byte ⌝ }
 {
     match class {
-        Class::Space => is_space(b),
-        Class::Digit => is_digit(b),
-        Class::Octal => is_octal(b),
-        Class::Hexadecimal => is_hexadecimal(b),
-        Class::Wordly => is_wordly(b),
-        Class::InLine => is_in_line(b),
-        Class::Starless => is_starless(b),
-        Class::Ordinary => is_ordinary(b),
+        Class::Space => is_space(byte),
+        Class::Digit => is_digit(byte),
+        Class::Octal => is_octal(byte),
+        Class::Hexadecimal => is_hexadecimal(byte),
+        Class::Wordly => is_wordly(byte),
+        Class::InLine => is_in_line(byte),
+        Class::Starless => is_starless(byte),
+        Class::Ordinary => is_ordinary(byte),
     }
 }
 
-// The byte n places on; 256, which is no byte, where the text has ended.
-pub fn byte_at(text: &[u8], n: usize) -> u32
-    ensures { λ r. ⌜ r ≡ at (now (text .entry)) n ⌝ }
+// What stands past the last byte of a text: no byte.
+pub const END: u32 = 256;
+
+// Bytes that open a literal, as `byte_at` gives them.
+pub const QUOTE: u32 = b'\'' as u32;
+
+pub const DOUBLE_QUOTE: u32 = b'"' as u32;
+
+// The byte at a place, or the end.
+pub fn byte_at(text: &[u8], place: usize) -> u32
+    ensures { λ r. ⌜ r ≡ at (now (text .entry)) place ⌝ }
 {
-    if n < text.len() { text[n] as u32 } else { 256 }
+    if place < text.len() {
+        text[place] as u32
+    } else {
+        END
+    }
 }
 
 // How many bytes of the class stand in a row at the front: one by one, for short runs.
 pub fn run_of(class: Class, text: &[u8]) -> usize
     ensures { λ r. ⌜ r ≡ run (member class) (now (text .entry)) ⌝ }
 {
-    let mut n = 0;
-    while n < text.len() {
-        if !is_in(class, text[n]) {
-            return n;
+    let mut size = 0;
+    while size < text.len() {
+        if !is_in(class, text[size]) {
+            return size;
         }
-        n += 1;
+        size += 1;
     }
-    n
+    size
 }
 
 // The place behind the run that stands at a place.
@@ -168,10 +185,10 @@ fn fills_block(class: Class, text: &[u8]) -> bool
     ensures { λ r. ⌜ r ≡ leb block (run (member class) (now (text .entry))) ⌝ }
 {
     let mut all = true;
-    let mut k = 0;
-    while k < BLOCK {
-        all = all & is_in(class, text[k]);
-        k += 1;
+    let mut place = 0;
+    while place < BLOCK {
+        all = all & is_in(class, text[place]);
+        place += 1;
     }
     all
 }
@@ -180,14 +197,14 @@ fn fills_block(class: Class, text: &[u8]) -> bool
 fn run_by_blocks(class: Class, text: &[u8]) -> usize
     ensures { λ r. ⌜ r ≡ run (member class) (now (text .entry)) ⌝ }
 {
-    let mut n = 0;
-    while BLOCK <= text.len() - n {
-        if !fills_block(class, &text[n..]) {
+    let mut passed = 0;
+    while BLOCK <= text.len() - passed {
+        if !fills_block(class, &text[passed..]) {
             break;
         }
-        n += BLOCK;
+        passed += BLOCK;
     }
-    past_run(class, text, n)
+    past_run(class, text, passed)
 }
 
 // The lesser of two numbers.
@@ -204,12 +221,12 @@ fn end_in_window(class: Class, size: u8, text: &[u8]) -> usize
     ensures { λ r. ⌜ r ≡ min size (run (member class) (now (text .entry))) ⌝ }
 {
     let mut end = size;
-    let mut k = 0;
-    while k < size {
-        let inside = is_in(class, text[k as usize]);
-        let place = if inside { size } else { k };
+    let mut at = 0;
+    while at < size {
+        let inside = is_in(class, text[at as usize]);
+        let place = if inside { size } else { at };
         end = lesser(place, end);
-        k += 1;
+        at += 1;
     }
     end as usize
 }
@@ -219,15 +236,15 @@ fn run_by_windows(class: Class, size: u8, text: &[u8]) -> usize
     requires { ⌜ 0 < size ⌝ }
     ensures { λ r. ⌜ r ≡ run (member class) (now (text .entry)) ⌝ }
 {
-    let mut n = 0;
-    while size as usize <= text.len() - n {
-        let end = end_in_window(class, size, &text[n..]);
+    let mut passed = 0;
+    while size as usize <= text.len() - passed {
+        let end = end_in_window(class, size, &text[passed..]);
         if end < size as usize {
-            return n + end;
+            return passed + end;
         }
-        n += size as usize;
+        passed += size as usize;
     }
-    past_run(class, text, n)
+    past_run(class, text, passed)
 }
 
 // The sizes of window: the least, of those tried, for which the compiler takes the bytes of these classes together.

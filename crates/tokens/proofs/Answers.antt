@@ -3,14 +3,14 @@
 use mathlib.Core.List.{List}
 use mathlib.Core.Bool.{true, false}
 use mathlib.Core.Path.{_≡_, refl, _∙_}
-use Prim.Native.Nat.{ℕ, _^_, _≤_, _<_}
+use Prim.Native.Nat.{ℕ, _≤_, _<_}
 use native.Mathlib.Omega.{arith}
 use borrow.Author.Tests.{le-leb, lt-leb, leb-true}
 use lib.ListN.{length}
 use Rattle.limits.specs.Limits.{text-ceiling, good-text}
 use Rattle.replies.specs.declared.Reply.{Reply}
 use Rattle.replies.specs.Replies as rows
-use Rattle.tables.specs.Tables.{token-width, capacity, store, zeroed}
+use Rattle.tables.specs.Tables.{number-end, token-width, capacity, store, zeroed}
 use Rattle.tables.proofs.Laws.{store-front, capacity-fits}
 use Rattle.text.specs.Tokens.{Tokens, tokens, tokens-of}
 use Rattle.tokens.specs.Answer.{Scanned, all-tokens, first-fault, answer, filled, token-reply, token-table}
@@ -33,7 +33,7 @@ faulted : {whole : Tokens} {table after : List ℕ} {reply : Reply} (n : ℕ) �
 faulted n (first-fault number place) = (refl, refl)
 
 -- the places and counts of a good text fit 32 bits
-pub short : (n : ℕ) → good-text n ≡ true → n < 2 ^ 32
+pub short : (n : ℕ) → good-text n ≡ true → n < number-end
 short n good = omega (arith, leb-true n text-ceiling good)
 
 module _ (text table : List ℕ) (good : good-text (length text) ≡ true) {after : List ℕ} where

@@ -1,4 +1,4 @@
--- Token records one after the other inside a text: each takes a byte at least, and starts where the one before it has ended, or later.
+-- Token records one after the other inside a text: each takes a byte at least, and starts at the end of the one before or later.
 -- Assumes nothing: a definition.
 use mathlib.Core.List.{List, [], _∷_}
 use Prim.Native.Nat.{ℕ, _+_, _≤_, _<_}

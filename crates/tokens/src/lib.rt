@@ -1,13 +1,15 @@
 // The token part: the tokens of a text as records of a lent table, or the text's first fault.
 ghost use mathlib.Core.Path.{_≡_};
-ghost use Prim.Native.Nat.{_+_, _≤_, _<_, _^_};
+ghost use Prim.Native.Nat.{_+_, _≤_, _<_};
 ghost use lib.ListN.{length, drop};
+ghost use Rattle.tables.specs.Tables.{number-end};
 ghost use Rattle.text.specs.Bytes.{at, run, space};
 ghost use Rattle.text.specs.Tokens.{tokens-of};
 ghost use Rattle.tokens.specs.Answer.{Scanned, token-reply, token-table};
 use lexemes::lexeme;
 use limits::Limits;
 use replies::Reply;
+use tables::TOKEN_WIDTH;
 use tables::clear;
 use tables::put_token;
 use text::Lexeme;
@@ -23,11 +25,11 @@ fn is_space_at(text: &[u8], place: usize) -> bool
     ensures { λ r. ⌜ r ≡ space (at (now (text .entry)) place) ⌝ }
 {
     if place < text.len() {
-        let b = text[place];
-        if b' ' < b {
+        let byte = text[place];
+        if b' ' < byte {
             return false;
         }
-        return text::is_space(b);
+        return text::is_space(byte);
     }
     false
 }
@@ -48,19 +50,19 @@ fn past_space(text: &[u8], place: usize) -> usize
 
 // Reads the whole text. The records go into the table while it has room; counting goes on when it is full.
 fn scan(text: &[u8], tokens: &mut [u32]) -> Found
-    requires { ⌜ length (now text) < 2 ^ 32 ⌝ }
+    requires { ⌜ length (now text) < number-end ⌝ }
     ensures { λ r. ⌜ Scanned (tokens-of (now (text .entry))) (now (tokens .entry)) (now (tokens .exit)) r ⌝ }
 {
     let words = words::words();
     let mut at = 0;
-    let mut n = 0;
+    let mut count = 0;
     while at < text.len() {
         let found = lexeme(&words, &text[at..]);
         match found {
             Lexeme::Blank(size) => at = past_space(text, at + size),
             Lexeme::Token(kind, size) => {
-                put_token(tokens, n, kind, at as u32, size as u32);
-                n += 1;
+                put_token(tokens, count, kind, at as u32, size as u32);
+                count += 1;
                 at = past_space(text, at + size);
             }
             Lexeme::NoLexeme => return Found::Fault(Reply::no_lexeme(at as u32)),
@@ -69,7 +71,7 @@ fn scan(text: &[u8], tokens: &mut [u32]) -> Found
             Lexeme::OtherCase(_) => return Found::Fault(Reply::other_case(at as u32)),
         }
     }
-    Found::Tokens(n)
+    Found::Tokens(count)
 }
 
 // The token part. The text is read for its faults before the table's room counts.
@@ -86,12 +88,12 @@ pub fn read_tokens(text: &[u8], tokens: &mut [u32]) -> Reply
             clear(tokens);
             reply
         }
-        Found::Tokens(n) => {
-            if n <= tokens.len() / 3 {
-                return Reply::accepted(text.len() as u32, n as u32, 0);
+        Found::Tokens(count) => {
+            if count <= tokens.len() / TOKEN_WIDTH {
+                return Reply::accepted(text.len() as u32, count as u32, 0);
             }
             clear(tokens);
-            Reply::more_tokens(text.len() as u32, n as u32)
+            Reply::more_tokens(text.len() as u32, count as u32)
         }
     }
 }

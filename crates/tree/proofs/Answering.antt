@@ -1,6 +1,6 @@
 -- The tree part's answer in each of its ways out: a bad call, or the reading concluded.
 -- What was tested decides whether the call is good; a good call is judged by every meaning of its tokens.
-use Prim.Native.Nat.{ℕ, _*_, _^_, _≤_, _<_}
+use Prim.Native.Nat.{ℕ, _*_, _≤_, _<_}
 use mathlib.Core.Path.{_≡_, refl, sym, _∙_}
 use mathlib.Core.Bool.{Bool, true, false, _&&_, true≢false}
 use mathlib.Core.List.{List}
@@ -15,10 +15,10 @@ use Rattle.limits.specs.declared.Bounded.{Bounded}
 use Rattle.limits.specs.declared.Bounded.the-variants.{Good, Beyond}
 use Rattle.limits.specs.Limits.{text-ceiling, good-call, bounded}
 use Rattle.limits.proofs.Laws.{text-good, beyond-bad, within-good}
-use Rattle.prediction.specs.Plan.{call}
+use Rattle.prediction.specs.plans.Plan.{call}
 use Rattle.replies.specs.declared.Reply.{Reply}
 use Rattle.replies.specs.Replies.{outside-limits}
-use Rattle.tables.specs.Tables.{capacity, token-width}
+use Rattle.tables.specs.Tables.{number-end, capacity, token-width}
 use Rattle.tables.proofs.Laws.{capacity-fits}
 use Rattle.meaning.specs.Calls.{good-tree-call, TreeAnswered}
 use Rattle.readers_core.specs.Course.{Course}
@@ -57,10 +57,10 @@ module _ (tokens : List ℕ) (count text : ℕ) (tree : List ℕ) (setting : ℕ
     good : good-call text setting ≡ true
     good = within-good text setting a b
 
-    pub text-small : text < 2 ^ 26
-    text-small = omega (arith, leb-true text text-ceiling (text-good text setting good))
+    pub text-small : text ≤ text-ceiling
+    text-small = leb-true text text-ceiling (text-good text setting good)
 
-    pub list-short : length (take (token-width * count) tokens) < 2 ^ 32
+    pub list-short : length (take (token-width * count) tokens) < number-end
     list-short =
         let h = text-small in
         let f = length-take-le (token-width * count) tokens (capacity-fits token-width tokens count few) in

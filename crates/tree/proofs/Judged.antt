@@ -1,6 +1,6 @@
 -- The reading of a whole list, concluded, is the verdict of every meaning of its tokens.
 -- Each outcome says what the list is by the rules; nothing counted reaches the ceiling, since records are bounded by the tokens.
-use Prim.Native.Nat.{ℕ, suc, _+_, _*_, _^_, _≤_, _<_}
+use Prim.Native.Nat.{ℕ, suc, _+_, _*_, _≤_, _<_}
 use mathlib.Core.Path.{_≡_, refl, ap, sym, _∙_, subst, fun-ext}
 use mathlib.Core.Bool.{Bool, true, false, not, cond}
 use mathlib.Core.List.{List, [], _∷_, map}
@@ -14,10 +14,11 @@ use Rattle.grammar.specs.Forest.{Forest, end}
 use Rattle.grammar.specs.Record.{TreeRecord, tree-record, records, shape}
 use Rattle.grammar.specs.Rule.{Edition}
 use Rattle.grammar.specs.Sets.{elem}
-use Rattle.prediction.specs.Plan.{call}
-use Rattle.prediction.specs.Run.{Outcome, deep, Runs}
-use Rattle.prediction.proofs.Theorems.{records-bounded}
-use Rattle.prediction.proofs.Verdict.{Says, says-derived, says-more, says-blamed, says-deep, says}
+use Rattle.limits.specs.Limits.{text-ceiling}
+use Rattle.prediction.specs.plans.Plan.{call}
+use Rattle.prediction.specs.Interpreter.{Outcome, deep, Runs}
+use Rattle.prediction.proofs.theorems.Theorems.{records-bounded}
+use Rattle.prediction.proofs.theorems.Verdict.{Says, says-derived, says-more, says-blamed, says-deep, says}
 use Rattle.tables.specs.Tables.{capacity, store, zeroed, Records, token-width, node-width}
 use Rattle.tables.proofs.Laws.{store-front, capacity-fits}
 use Rattle.meaning.specs.Sense.{Sense, Means, kind, numbers, tree-records}
@@ -26,10 +27,10 @@ use Rattle.meaning.specs.Verdict as verdict
 use Rattle.meaning.specs.Verdict.{Verdict, verdict}
 use Rattle.meaning.specs.Answer.{tree-reply, tree-after}
 use Rattle.meaning.specs.Calls.{first-records}
-use Rattle.verdicts.proofs.Outcomes.{of-outcome, outcome-verdict}
+use Rattle.meaning.proofs.Outcomes.{of-outcome, outcome-verdict}
 use Rattle.readers_core.specs.Course.{Course, coded, noted, table-in}
 use Rattle.readers_core.specs.Reading.{Reading, view, ceiling, write, writes, nothing, Held, Ends, ends-done, ends-blame}
-use Rattle.readers_core.specs.Reading.{ends-deep, Reads}
+use Rattle.readers_core.specs.Reading.{ends-deep, sunk, Reads}
 use Rattle.readers_core.proofs.Holding.{held-none}
 use Rattle.readers_core.proofs.Sharing.{at-home}
 use Rattle.readers_core.proofs.Storing.{write-below}
@@ -63,7 +64,7 @@ beginning = view 0
 
 -- in any course in which readers write the numbers of the rules themselves
 module _ (C : Course) (plain : (r : ℕ) → C .code r ≡ r) (tokens : List ℕ) (count text depth : ℕ)
-    (fits : token-width * count ≤ length tokens) (few : count < 2 ^ 26) where
+    (fits : token-width * count ≤ length tokens) (few : count ≤ text-ceiling) where
   abbrev E : Edition
   E = C .edition
 
@@ -90,14 +91,14 @@ module _ (C : Course) (plain : (r : ℕ) → C .code r ≡ r) (tokens : List ℕ
     room = capacity node-width w
 
     -- a refusal for the grammar or for depth
-    blamed-right : (q : ℕ) → complete count s ≡ false → eqb (s .answer) 8 ≡ false → s .at ≡ q → Right w w′ s (verdict.grammar q)
+    blamed-right : (q : ℕ) → complete count s ≡ false → eqb (s .answer) sunk ≡ false → s .at ≡ q → Right w w′ s (verdict.grammar q)
     unfolding concluded kept-tree tree-reply tree-after list ts
     blamed-right q c a e = record {
       said = simp (c, a, e, places-listed count tokens fits text q, length-records token-width count tokens);
       table = simp (c, zeroed-same w w′ same);
     }
 
-    deep-right : (q : ℕ) → complete count s ≡ false → eqb (s .answer) 8 ≡ true → s .at ≡ q → Right w w′ s (verdict.deep q)
+    deep-right : (q : ℕ) → complete count s ≡ false → eqb (s .answer) sunk ≡ true → s .at ≡ q → Right w w′ s (verdict.deep q)
     unfolding concluded kept-tree tree-reply tree-after list ts
     deep-right q c a e = record {
       said = simp (c, a, e, places-listed count tokens fits text q, length-records token-width count tokens);
@@ -178,10 +179,10 @@ module _ (C : Course) (plain : (r : ℕ) → C .code r ≡ r) (tokens : List ℕ
     outcome-right (says-more {g} {j} l b i) (ends-done a p h) =
         let n : j ≡ length kinds → ⊥ = λ e. omega arith in
         rw (ne-eqb j (length kinds) n)
-        (blamed-right j (done-early a (λ e. omega (arith, count-is))) (ne-eqb (s .answer) 8 (λ e. omega arith)) p)
+        (blamed-right j (done-early a (λ e. omega (arith, count-is))) (ne-eqb (s .answer) sunk (λ e. omega arith)) p)
     outcome-right (says-blamed {q} b i) (ends-blame a p) =
-        blamed-right q (stopped-here (λ e. omega arith)) (ne-eqb (s .answer) 8 (λ e. omega arith)) p
-    outcome-right (says-deep {q} l v t) (ends-deep a p) = deep-right q (stopped-here (λ e. omega arith)) (eq-eqb (s .answer) 8 a) p
+        blamed-right q (stopped-here (λ e. omega arith)) (ne-eqb (s .answer) sunk (λ e. omega arith)) p
+    outcome-right (says-deep {q} l v t) (ends-deep a p) = deep-right q (stopped-here (λ e. omega arith)) (eq-eqb (s .answer) sunk a) p
 
   -- so whatever the list means, the reading concluded is its verdict
   pub judged : (w w′ : List ℕ) → length w′ ≡ length w → (s : ℕ) → Reads C list depth (call (E .start)) (0, w) (s, w′) →

@@ -11,7 +11,7 @@ use Rattle.meaning.specs.Answer.{place}
 use Rattle.meaning.specs.Calls.{first-records}
 use Rattle.meaning.specs.Sense.{kind}
 use Rattle.readers_core.specs.Reading.{kind-at}
-use Rattle.tables.specs.Tables.{token-width}
+use Rattle.tables.specs.Tables.{token-width, token-first}
 use Rattle.tree.specs.Conclusion.{place-in}
 
 -- inside a list it does not matter what stands past its end
@@ -59,4 +59,4 @@ module _ (n : ℕ) (l : List ℕ) (m : token-width * n ≤ length l) where
 
   -- the places
   pub places-listed : (text q : ℕ) → place-in (take (token-width * n) l) text q ≡ place text (first-records token-width n l) q
-  places-listed text q = column token-width 1 (omega arith) text 0 n l m q
+  places-listed text q = column token-width token-first (omega arith) text 0 n l m q

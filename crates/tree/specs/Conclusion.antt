@@ -7,12 +7,12 @@ use lib.Dec.{eqb, ltb}
 use lib.ListN.{getD}
 use Rattle.replies.specs.declared.Reply.{Reply}
 use Rattle.replies.specs.Replies as replies
-use Rattle.tables.specs.Tables.{capacity, zeroed, token-width, node-width}
-use Rattle.readers_core.specs.Reading.{Reading}
+use Rattle.tables.specs.Tables.{capacity, zeroed, token-width, token-first, node-width}
+use Rattle.readers_core.specs.Reading.{Reading, sunk}
 
 -- the place of token i of a list of records: its first byte, or the text's length past the last token
 abbrev pub place-in : (list : List ℕ) (text i : ℕ) → ℕ
-place-in list text i = getD list (token-width * i + 1) text
+place-in list text i = getD list (token-width * i + token-first) text
 
 -- the whole list is read
 unfoldable pub complete : (count : ℕ) → Reading → Bool
@@ -24,7 +24,7 @@ concluded list tree count text s =
     cond (complete count s)
     (cond (ltb (capacity node-width tree) (s .count)) (replies.more-records text count (s .count))
     (replies.accepted text count (s .count)))
-    (cond (eqb (s .answer) 8) (replies.too-deep (place-in list text (s .at)) count)
+    (cond (eqb (s .answer) sunk) (replies.too-deep (place-in list text (s .at)) count)
     (replies.grammar (place-in list text (s .at)) count))
 
 -- the tree table

@@ -5,31 +5,57 @@
 // heading.
 ghost use Prim.Native.Nat.{_+_, _≤_, _<_};
 ghost use lib.ListN.{length};
+ghost use Rattle.tables.specs.Tables.{token-width};
+ghost use Rattle.vectors.specs.Lines.{hex, escape-size, most-numbers};
+use libc::STDIN_FILENO;
+use libc::STDOUT_FILENO;
 use replies::Reply;
+use tables::TOKEN_FIRST;
+use tables::TOKEN_LENGTH;
+use tables::TOKEN_WIDTH;
 use text::Class;
 
+// Where the text of a line starts: behind two digits and a blank.
+const TEXT: usize = 3;
+
+// The most bytes of a text.
+const TEXT_SIZE: usize = 4096;
+
+// What each number of a table is before the call.
+const UNTOUCHED: u32 = 9;
+
+// The bytes of a line that hex digits take for one byte of the text.
+const ESCAPE_SIZE: usize = 3;
+
+const HEX: usize = 16;
+
+const DECIMAL: usize = 10;
+
+// The most numbers of a table: the most that two hex digits, read as decimal ones, can say.
+const TABLE_SIZE: usize = (HEX - 1) * DECIMAL + HEX - 1;
+
 // A number, after a blank.
-fn print(x: u32) {
-    io::write_all(1, b" ");
-    io::print_decimal(1, x as u64);
+fn print(number: u32) {
+    io::write_all(STDOUT_FILENO, b" ");
+    io::print_decimal(STDOUT_FILENO, number as u64);
 }
 
-fn print_reply(r: Reply) {
-    io::write_all(1, b" =>");
-    print(r.number);
-    print(r.place);
-    print(r.tokens);
-    print(r.records);
+fn print_reply(reply: Reply) {
+    io::write_all(STDOUT_FILENO, b" =>");
+    print(reply.number);
+    print(reply.place);
+    print(reply.tokens);
+    print(reply.records);
 }
 
 // Prints the record at a place of the table.
 fn print_record(table: &[u32], at: usize)
-    requires { ⌜ at + 3 ≤ length (now table) ⌝ }
+    requires { ⌜ at + token-width ≤ length (now table) ⌝ }
 {
-    io::write_all(1, b" |");
+    io::write_all(STDOUT_FILENO, b" |");
     print(table[at]);
-    print(table[at + 1]);
-    print(table[at + 2]);
+    print(table[at + TOKEN_FIRST]);
+    print(table[at + TOKEN_LENGTH]);
 }
 
 // Prints so many records of the table, and answers where the rest of it starts.
@@ -39,11 +65,11 @@ fn print_records(table: &[u32], count: u32) -> usize
     let mut at = 0;
     let mut n = 0;
     while n < count {
-        if table.len() - at < 3 {
+        if table.len() - at < TOKEN_WIDTH {
             return at;
         }
         print_record(table, at);
-        at += 3;
+        at += TOKEN_WIDTH;
         n += 1;
     }
     at
@@ -71,21 +97,21 @@ fn print_rest(table: &[u32], from: usize)
     let mut at = from;
     while at < table.len() {
         let n = same_numbers(table, at);
-        io::write_all(1, b" | ");
-        io::print_decimal(1, n as u64);
-        io::write_all(1, b" of");
+        io::write_all(STDOUT_FILENO, b" | ");
+        io::print_decimal(STDOUT_FILENO, n as u64);
+        io::write_all(STDOUT_FILENO, b" of");
         print(table[at]);
         at += n;
     }
 }
 
 // The value of a hex digit.
-fn value(b: u8) -> usize
-    ensures { λ r. ⌜ r < 16 ⌝ }
+fn value(digit: u8) -> usize
+    ensures { λ r. ⌜ r < hex ⌝ }
 {
-    match b {
-        b'0'..=b'9' => (b - b'0') as usize,
-        b'A'..=b'F' => (b - b'A') as usize + 10,
+    match digit {
+        b'0'..=b'9' => (digit - b'0') as usize,
+        b'A'..=b'F' => (digit - b'A') as usize + DECIMAL,
         _ => 0,
     }
 }
@@ -95,18 +121,18 @@ fn byte_of(line: &[u8], at: usize) -> u8
     requires { ⌜ at < length (now line) ⌝ }
 {
     if line[at] == b'%' {
-        if 2 < line.len() - at {
-            return (value(line[at + 1]) * 16 + value(line[at + 2])) as u8;
+        if ESCAPE_SIZE <= line.len() - at {
+            return (value(line[at + 1]) * HEX + value(line[at + 2])) as u8;
         }
     }
     line[at]
 }
 
 // How many bytes of a line stand for one byte of the text.
-fn width(b: u8) -> usize
-    ensures { λ r. ⌜ (0 < r) × (r ≤ 3) ⌝ }
+fn width(byte: u8) -> usize
+    ensures { λ r. ⌜ (0 < r) × (r ≤ escape-size) ⌝ }
 {
-    if b == b'%' { 3 } else { 1 }
+    if byte == b'%' { ESCAPE_SIZE } else { 1 }
 }
 
 // Writes the text of a line into a lent slice, and answers how long it is.
@@ -134,7 +160,7 @@ fn run(text: &[u8], table: &mut [u32]) {
     let reply = tokens::read_tokens(text, table);
     print_reply(reply);
     let mut count = 0;
-    if reply.number == 0 {
+    if reply.number == Reply::ACCEPTED {
         count = reply.tokens;
     }
     let from = print_records(table, count);
@@ -143,22 +169,22 @@ fn run(text: &[u8], table: &mut [u32]) {
 
 // Runs the text of a line on a table of a length.
 fn run_text(line: &[u8], room: usize)
-    requires { ⌜ room ≤ 165 ⌝ }
+    requires { ⌜ room ≤ most-numbers ⌝ }
 {
-    let mut text = [0u8; 4096];
+    let mut text = [0u8; TEXT_SIZE];
     let size = text_of(line, &mut text);
-    let mut table = [9u32; 165];
+    let mut table = [UNTOUCHED; TABLE_SIZE];
     run(&text[..size], &mut table[..room]);
 }
 
 fn run_line(line: &[u8]) {
-    io::write_all(1, line);
-    if 3 <= line.len() {
+    io::write_all(STDOUT_FILENO, line);
+    if TEXT <= line.len() {
         if text::is_digit(line[0]) {
-            run_text(&line[3..], value(line[0]) * 10 + value(line[1]));
+            run_text(&line[TEXT..], value(line[0]) * DECIMAL + value(line[1]));
         }
     }
-    io::write_all(1, b"\n");
+    io::write_all(STDOUT_FILENO, b"\n");
 }
 
 // Where the line that starts at a place ends.
@@ -180,6 +206,6 @@ fn run_lines(input: &[u8]) {
 
 fn main() {
     let mut input = io::large_buffer();
-    let n = io::read_full(0, &mut input);
-    run_lines(&input[..n]);
+    let size = io::read_full(STDIN_FILENO, &mut input);
+    run_lines(&input[..size]);
 }

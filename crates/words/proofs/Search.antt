@@ -8,11 +8,11 @@ use Prim.Native.String.{String}
 use native.Mathlib.Omega.{arith}
 use borrow.Author.Tests.{lt-ltb}
 use lib.ListN.{length, getD}
-use Rattle.kinds.specs.Kinds.{bytes, keywords, keyword, search-from, same, identifier}
+use Rattle.kinds.specs.Kinds.{bytes, keywords, first-keyword, keyword, search-from, same, identifier}
 use Rattle.text.specs.Bytes.{at}
 use Rattle.text.specs.Words.{lower, same-but-case, keyword-but-case, sorted}
 use Rattle.text.specs.declared.Lexeme.the-variants.{Token, OtherCase}
-use Rattle.words.specs.Table.{near-to, likeness, spelling, First}
+use Rattle.words.specs.Table.{row-count, near-to, likeness, spelling, First}
 use Rattle.words.specs.declared.Likeness.{Likeness}
 use Rattle.words.specs.declared.Likeness.the-variants.{Same, ButCase, Different}
 use Rattle.words.proofs.Spellings.{unless, same-equal, same-case, case-near, near-length, near-letter}
@@ -21,7 +21,6 @@ use Rattle.words.proofs.Rules.{distinct-at}
 -- none of the spellings is like w
 search-none : (k : ℕ) (like : List ℕ → List ℕ → Bool) (w : List ℕ) (vs : List String) →
     ((j : ℕ) → j < length vs → like w (bytes (getD vs j "")) ≡ false) → search-from k like w vs ≡ 0
-unfolding search-from
 search-none k like w [] none = refl
 search-none k like w (v ∷ vs) none =
     rw (none 0 (omega arith)) (search-none (suc k) like w vs (λ j h. none (suc j) (omega arith)))
@@ -30,7 +29,6 @@ search-none k like w (v ∷ vs) none =
 search-found : (k : ℕ) (like : List ℕ → List ℕ → Bool) (w : List ℕ) (vs : List String) (r : ℕ) → r < length vs →
     ((j : ℕ) → j < r → like w (bytes (getD vs j "")) ≡ false) → like w (bytes (getD vs r "")) ≡ true →
     search-from k like w vs ≡ k + r
-unfolding search-from
 search-found k like w [] r h none there = absurd (omega arith)
 search-found k like w (v ∷ vs) zero h none there = rw there (omega arith)
 search-found k like w (v ∷ vs) (suc r) h none there =
@@ -62,9 +60,9 @@ by-place P (suc row) before here after (suc j) =
 
 -- no row before this one is w, case aside, and this one is near w
 pub record Searched (w : List ℕ) (row : ℕ) : Type 0 where
-  pub in-table : row ≤ 48
+  pub in-table : row ≤ row-count
   pub passed : (j : ℕ) → j < row → same-but-case w (spelling j) ≡ false
-  pub there : row < 48 → near-to w (spelling row) ≡ true
+  pub there : row < row-count → near-to w (spelling row) ≡ true
 
 module _ (w : List ℕ) where
   not-near : (v : List ℕ) → near-to w v ≡ false → same-but-case w v ≡ false
@@ -78,7 +76,7 @@ module _ (w : List ℕ) where
   }
 
   module _ {row : ℕ} (s : Searched w row) where
-    pub searched-next : {r : ℕ} → row < 48 → Different ≡ likeness w (spelling row) →
+    pub searched-next : {r : ℕ} → row < row-count → Different ≡ likeness w (spelling row) →
         First (near-to (spelling row)) (suc row) r → Searched w r
     searched-next {r} h e f =
         let n = near-length (lower (at w 0)) (length w) (spelling row) (s .there h) in
@@ -97,36 +95,36 @@ module _ (w : List ℕ) where
     not-spelled j h = unless (same w (spelling j)) (same-but-case w (spelling j)) (same-case w (spelling j)) (s .passed j h)
 
     -- the keyword but for case is the one found
-    found-case : row < 48 → same-but-case w (spelling row) ≡ true → keyword-but-case w ≡ 16 + row
-    unfolding keyword-but-case spelling keywords
-    found-case h e = search-found 16 same-but-case w keywords row h (s .passed) e
+    found-case : row < row-count → same-but-case w (spelling row) ≡ true → keyword-but-case w ≡ first-keyword + row
+    unfolding keyword-but-case spelling
+    found-case h e = search-found first-keyword same-but-case w keywords row h (s .passed) e
 
-    pub sorted-same : row < 48 → Same ≡ likeness w (spelling row) → Token (16 + row) (length w) ≡ sorted w (length w)
-    unfolding sorted keyword spelling keywords
+    pub sorted-same : row < row-count → Same ≡ likeness w (spelling row) → Token (first-keyword + row) (length w) ≡ sorted w (length w)
+    unfolding sorted keyword spelling
     sorted-same h e =
         let t = told w (spelling row) e in
-        let k : keyword w ≡ 16 + row = search-found 16 same w keywords row h not-spelled t in
-        rw (k, lt-ltb 0 (16 + row) (omega arith))
+        let k : keyword w ≡ first-keyword + row = search-found first-keyword same w keywords row h not-spelled t in
+        rw (k, lt-ltb 0 (first-keyword + row) (omega arith))
 
     -- the same but for case as one keyword, it is spelled as no other
-    spelled-none : row < 48 → (same w (spelling row) ≡ false) × (same-but-case w (spelling row) ≡ true) → keyword w ≡ 0
-    unfolding keyword spelling keywords
+    spelled-none : row < row-count → (same w (spelling row) ≡ false) × (same-but-case w (spelling row) ≡ true) → keyword w ≡ 0
+    unfolding keyword spelling
     spelled-none h t =
-        search-none 16 same w keywords
-        (by-place (λ j. j < 48 → same w (spelling j) ≡ false) row (λ j b l. not-spelled j b) (λ l. t .0)
+        search-none first-keyword same w keywords
+        (by-place (λ j. j < row-count → same w (spelling j) ≡ false) row (λ j b l. not-spelled j b) (λ l. t .0)
         (λ j a l.
         unless (same w (spelling j)) false
         (λ u. sym (distinct-at a l) ∙ ap (λ (v : List ℕ). same-but-case v (spelling row)) (sym (same-equal w (spelling j) u)) ∙ t .1) refl))
 
-    pub sorted-but-case : row < 48 → ButCase ≡ likeness w (spelling row) → OtherCase (16 + row) ≡ sorted w (length w)
+    pub sorted-but-case : row < row-count → ButCase ≡ likeness w (spelling row) → OtherCase (first-keyword + row) ≡ sorted w (length w)
     unfolding sorted
     sorted-but-case h e =
         let t = told w (spelling row) e in
-        rw (spelled-none h t, found-case h (t .1), lt-ltb 0 (16 + row) (omega arith))
+        rw (spelled-none h t, found-case h (t .1), lt-ltb 0 (first-keyword + row) (omega arith))
 
-    pub sorted-none : 48 ≤ row → Token identifier (length w) ≡ sorted w (length w)
-    unfolding sorted keyword keyword-but-case spelling keywords
+    pub sorted-none : row-count ≤ row → Token identifier (length w) ≡ sorted w (length w)
+    unfolding sorted keyword keyword-but-case spelling
     sorted-none h =
-        let a : keyword w ≡ 0 = search-none 16 same w keywords (λ j l. not-spelled j (omega arith)) in
-        let b : keyword-but-case w ≡ 0 = search-none 16 same-but-case w keywords (λ j l. s .passed j (omega arith)) in
+        let a : keyword w ≡ 0 = search-none first-keyword same w keywords (λ j l. not-spelled j (omega arith)) in
+        let b : keyword-but-case w ≡ 0 = search-none first-keyword same-but-case w keywords (λ j l. s .passed j (omega arith)) in
         rw (a, b)

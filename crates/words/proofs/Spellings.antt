@@ -13,7 +13,7 @@ use lib.Seq.{drop-cons, take-add, take-all, take-take}
 use Rattle.kinds.specs.Kinds.{same}
 use Rattle.text.specs.Bytes.{at}
 use Rattle.text.specs.Words.{lower, same-but-case}
-use Rattle.words.specs.Table.{four-at, near, near-to}
+use Rattle.words.specs.Table.{at-once, four-at, near, near-to}
 
 -- what fails where a weaker test fails
 pub unless : (a b : Bool) → (a ≡ true → b ≡ true) → b ≡ false → a ≡ false
@@ -21,7 +21,6 @@ unless true b f e = sym (f refl) ∙ e
 unless false b f e = refl
 
 pub same-equal : (w v : List ℕ) → same w v ≡ true → w ≡ v
-unfolding same
 same-equal [] [] e = refl
 same-equal [] (y ∷ ys) e = absurd (false≢true e)
 same-equal (x ∷ xs) [] e = absurd (false≢true e)
@@ -32,7 +31,6 @@ same-equal (x ∷ xs) (y ∷ ys) e =
     cc
 
 same-reflexive : (v : List ℕ) → same v v ≡ true
-unfolding same
 same-reflexive [] = refl
 same-reflexive (x ∷ xs) = rw (eq-eqb x x refl, same-reflexive xs)
 
@@ -84,7 +82,6 @@ pub record Bytewise (alike : List ℕ → List ℕ → Bool) (read : ℕ → ℕ
   pub one : (x y : ℕ) (xs ys : List ℕ) → alike (x ∷ xs) (y ∷ ys) ≡ (eqb (read x) (read y) && alike xs ys)
 
 pub same-bytewise : Bytewise same (λ b. b)
-unfolding same
 same-bytewise = record { none = refl; one = λ x y xs ys. refl }
 
 pub case-bytewise : Bytewise same-but-case lower
@@ -123,14 +120,14 @@ next-byte w n i j e h =
     let s : suc i ≡ j = omega arith in
     ap (take (suc n)) (drop-cons w i 0 (omega arith)) ∙ ap (λ (k : ℕ). getD w i 0 ∷ take n (drop k w)) s
 
-pub four-bytes : (w : List ℕ) (i : ℕ) → i + 4 ≤ length w →
+pub four-bytes : (w : List ℕ) (i : ℕ) → i + at-once ≤ length w →
     four-at i w ≡ getD w i 0 ∷ getD w (i + 1) 0 ∷ getD w (i + 2) 0 ∷ getD w (i + 3) 0 ∷ []
 four-bytes w i h =
     rw (
       next-byte w 3 i (i + 1) refl (omega arith),
       next-byte w 2 (i + 1) (i + 2) (omega arith) (omega arith),
       next-byte w 1 (i + 2) (i + 3) (omega arith) (omega arith),
-      next-byte w 0 (i + 3) (i + 4) (omega arith) h,
+      next-byte w 0 (i + 3) (i + at-once) (omega arith) h,
     )
 
 -- truth values that follow each from the other
@@ -148,15 +145,15 @@ module _ (w v : List ℕ) where
   four-stop i e = sym (unless (same w v) (same (four-at i w) (four-at i v)) (same-four i) e)
 
   -- the first i bytes are the same, and four more
-  pub four-more : (i : ℕ) → take i w ≡ take i v → same (four-at i w) (four-at i v) ≡ true → take (i + 4) w ≡ take (i + 4) v
-  four-more i e f = rw (take-add i 4 w, take-add i 4 v, e, same-equal (four-at i w) (four-at i v) f)
+  pub four-more : (i : ℕ) → take i w ≡ take i v → same (four-at i w) (four-at i v) ≡ true → take (i + at-once) w ≡ take (i + at-once) v
+  four-more i e f = rw (take-add i at-once w, take-add i at-once v, e, same-equal (four-at i w) (four-at i v) f)
 
   -- where at most the last four bytes are left, these settle it, though some of them were passed
-  pub four-last : (k i : ℕ) → length w ≡ length v → k + 4 ≡ length w → k ≤ i → take i w ≡ take i v → same (four-at k w) (four-at k v) ≡ same w v
+  pub four-last : (k i : ℕ) → length w ≡ length v → k + at-once ≡ length w → k ≤ i → take i w ≡ take i v → same (four-at k w) (four-at k v) ≡ same w v
   four-last k i l m h e = each-way _ _ whole (same-four k)
     where
       whole : same (four-at k w) (four-at k v) ≡ true → same w v ≡ true
       whole f =
           let passed : take k w ≡ take k v = sym (take-take k i w h) ∙ ap (take k) e ∙ take-take k i v h in
-          let equal : w ≡ v = sym (take-all (k + 4) w (omega arith)) ∙ four-more k passed f ∙ take-all (k + 4) v (omega arith) in
+          let equal : w ≡ v = sym (take-all (k + at-once) w (omega arith)) ∙ four-more k passed f ∙ take-all (k + at-once) v (omega arith) in
           rw equal (same-reflexive v)

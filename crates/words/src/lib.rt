@@ -3,26 +3,24 @@ ghost use mathlib.Core.Bool.{true};
 ghost use mathlib.Core.Path.{_≡_};
 ghost use Prim.Native.Nat.{suc, _+_, _≤_, _<_};
 ghost use lib.ListN.{length};
-ghost use Rattle.kinds.specs.Kinds.{same};
+ghost use Rattle.kinds.specs.Kinds.{first-keyword, same};
 ghost use Rattle.text.specs.Bytes.{at, letter};
 ghost use Rattle.text.specs.Words as text-words;
-ghost use Rattle.words.specs.Table.{table, place-of, four-at, likeness, spelling, First, near-to};
+ghost use Rattle.words.specs.Table.{row-count, table, at-once, place-of, four-at, likeness, spelling, First, near-to};
+use kinds::kind;
 use text::Lexeme;
 
 // The rows of the table below, numbered from 0.
 const ROWS: usize = 48;
 
-// The bytes of a row.
-const WIDTH: usize = 14;
-
-// Where a row has its kind.
+// Where a row has its kind, behind its spelling.
 const KIND: usize = 12;
 
 // Where a row has the next row near it.
-const NEXT: usize = 13;
+const NEXT: usize = KIND + 1;
 
-// Where the index starts.
-const INDEX: usize = 672;
+// The bytes of a row.
+const ROW_SIZE: usize = NEXT + 1;
 
 // The bytes of the shortest keyword.
 const SHORTEST: usize = 2;
@@ -31,13 +29,22 @@ const SHORTEST: usize = 2;
 const LONGEST: usize = 11;
 
 // How many lengths these are: the entries of a line of the index.
-const LENGTHS: usize = 10;
+const LENGTHS: usize = LONGEST - SHORTEST + 1;
 
-// The keywords in byte order, a row each: the spelling filled up to 12 bytes, the kind, and the next row with the same length
-// and, case aside, the same first letter. Then the index: for each letter, a line each, and each length from 2 to 11 the first
-// row that has them. \x30 is 48, which is no row. What fills a row has no two neighbours alike: the compiler stores equal bytes
+// The letters of the alphabet: the lines of the index.
+const LETTERS: usize = 26;
+
+// Where the index starts.
+const INDEX: usize = ROWS * ROW_SIZE;
+
+// The bytes of the table.
+pub const TABLE_SIZE: usize = INDEX + LETTERS * LENGTHS;
+
+// The keywords in byte order, a row each: the spelling filled up, the kind, and the next row with the same length and, case
+// aside, the same first letter. Then the index: for each letter, a line each, and each length of a keyword the first row that
+// has them. \x30 is ROWS, which is no row. What fills a row has no two neighbours alike: the compiler stores equal bytes
 // by themselves, and the table, which is made at each call, took twice as long.
-const WORDS: [u8; 932] = *b"\
+const WORDS: [u8; TABLE_SIZE] = *b"\
     FALSE=-=-=-=\x10\x12\
     Object-=-=-=\x11\x1c\
     TRUE-=-=-=-=\x12\x30\
@@ -123,19 +130,22 @@ pub enum Likeness {
 }
 
 // The table, made once for a call of the reader and lent down.
-pub fn words() -> [u8; 932]
+pub fn words() -> [u8; TABLE_SIZE]
     ensures { λ r. ⌜ r ≡ table ⌝ }
 {
     WORDS
 }
 
+// What is added to a letter for its lower case.
+const TO_LOWER: u8 = b'a' - b'A';
+
 // A letter in lower case; any other byte as it is.
-fn lower(b: u8) -> u8
-    ensures { λ r. ⌜ r ≡ text-words.lower b ⌝ }
+fn lower(byte: u8) -> u8
+    ensures { λ r. ⌜ r ≡ text-words.lower byte ⌝ }
 {
-    match b {
-        b'A'..=b'Z' => b + 32,
-        _ => b,
+    match byte {
+        b'A'..=b'Z' => byte + TO_LOWER,
+        _ => byte,
     }
 }
 
@@ -143,21 +153,23 @@ fn lower(b: u8) -> u8
 const AT_ONCE: usize = 4;
 
 // Whether the four bytes from a place on are the same.
-fn are_four_same(w: &[u8], v: &[u8], i: usize) -> bool
-    requires { ⌜ (length (now w) ≡ length (now v)) × (i + 4 ≤ length (now w)) ⌝ }
-    ensures { λ r. ⌜ r ≡ same (four-at i (now (w .entry))) (four-at i (now (v .entry))) ⌝ }
+fn are_four_same(word: &[u8], spelling: &[u8], i: usize) -> bool
+    requires { ⌜ (length (now word) ≡ length (now spelling)) × (i + at-once ≤ length (now word)) ⌝ }
+    ensures { λ r. ⌜ r ≡ same (four-at i (now (word .entry))) (four-at i (now (spelling .entry))) ⌝ }
 {
-    (w[i] == v[i]) & ((w[i + 1] == v[i + 1]) & ((w[i + 2] == v[i + 2]) & (w[i + 3] == v[i + 3])))
+    (word[i] == spelling[i])
+        & ((word[i + 1] == spelling[i + 1])
+            & ((word[i + 2] == spelling[i + 2]) & (word[i + 3] == spelling[i + 3])))
 }
 
 // Whether a word is spelled exactly so, byte by byte: for words of fewer bytes than are compared at once.
-fn is_same_by_bytes(w: &[u8], v: &[u8]) -> bool
-    requires { ⌜ length (now w) ≡ length (now v) ⌝ }
-    ensures { λ r. ⌜ r ≡ same (now (w .entry)) (now (v .entry)) ⌝ }
+fn is_same_by_bytes(word: &[u8], spelling: &[u8]) -> bool
+    requires { ⌜ length (now word) ≡ length (now spelling) ⌝ }
+    ensures { λ r. ⌜ r ≡ same (now (word .entry)) (now (spelling .entry)) ⌝ }
 {
     let mut i = 0;
-    while i < w.len() {
-        if w[i] != v[i] {
+    while i < word.len() {
+        if word[i] != spelling[i] {
             return false;
         }
         i += 1;
@@ -166,33 +178,33 @@ fn is_same_by_bytes(w: &[u8], v: &[u8]) -> bool
 }
 
 // Whether a word is spelled exactly so. The last comparison may look at bytes again, so that no single ones are left.
-fn is_same(w: &[u8], v: &[u8]) -> bool
-    requires { ⌜ length (now w) ≡ length (now v) ⌝ }
-    ensures { λ r. ⌜ r ≡ same (now (w .entry)) (now (v .entry)) ⌝ }
+fn is_same(word: &[u8], spelling: &[u8]) -> bool
+    requires { ⌜ length (now word) ≡ length (now spelling) ⌝ }
+    ensures { λ r. ⌜ r ≡ same (now (word .entry)) (now (spelling .entry)) ⌝ }
 {
-    let n = w.len();
-    if n < AT_ONCE {
-        return is_same_by_bytes(w, v);
+    let size = word.len();
+    if size < AT_ONCE {
+        return is_same_by_bytes(word, spelling);
     }
-    let last = n - AT_ONCE;
+    let last = size - AT_ONCE;
     let mut i = 0;
     while i < last {
-        if !are_four_same(w, v, i) {
+        if !are_four_same(word, spelling, i) {
             return false;
         }
         i += AT_ONCE;
     }
-    are_four_same(w, v, last)
+    are_four_same(word, spelling, last)
 }
 
 // Whether a word is spelled so, the case of letters aside. Its length and first letter are the spelling's already.
-fn is_same_but_case(w: &[u8], v: &[u8]) -> bool
-    requires { ⌜ (near-to (now w) (now v) ≡ true) × (0 < length (now w)) ⌝ }
-    ensures { λ r. ⌜ r ≡ text-words.same-but-case (now (w .entry)) (now (v .entry)) ⌝ }
+fn is_same_but_case(word: &[u8], spelling: &[u8]) -> bool
+    requires { ⌜ (near-to (now word) (now spelling) ≡ true) × (0 < length (now word)) ⌝ }
+    ensures { λ r. ⌜ r ≡ text-words.same-but-case (now (word .entry)) (now (spelling .entry)) ⌝ }
 {
     let mut i = 1;
-    while i < w.len() {
-        if lower(w[i]) != lower(v[i]) {
+    while i < word.len() {
+        if lower(word[i]) != lower(spelling[i]) {
             return false;
         }
         i += 1;
@@ -201,102 +213,102 @@ fn is_same_but_case(w: &[u8], v: &[u8]) -> bool
 }
 
 // Compares a word with a spelling that has its length and, case aside, its first letter.
-fn likeness_of(w: &[u8], v: &[u8]) -> Likeness
-    requires { ⌜ (near-to (now w) (now v) ≡ true) × (0 < length (now w)) ⌝ }
-    ensures { λ r. ⌜ r ≡ likeness (now (w .entry)) (now (v .entry)) ⌝ }
+fn likeness_of(word: &[u8], spelling: &[u8]) -> Likeness
+    requires { ⌜ (near-to (now word) (now spelling) ≡ true) × (0 < length (now word)) ⌝ }
+    ensures { λ r. ⌜ r ≡ likeness (now (word .entry)) (now (spelling .entry)) ⌝ }
 {
-    if is_same(w, v) {
+    if is_same(word, spelling) {
         return Likeness::Same;
     }
-    if is_same_but_case(w, v) {
+    if is_same_but_case(word, spelling) {
         return Likeness::ButCase;
     }
     Likeness::Different
 }
 
 // The bits of a letter that are its place in the alphabet, from 1 on, in either case.
-const PLACE_BITS: u8 = 31;
+const PLACE_BITS: u8 = 0b11111;
 
 // A letter's place in the alphabet, from 0 on.
-fn place_of(b: u8) -> usize
-    requires { ⌜ letter b ≡ true ⌝ }
-    ensures { λ r. ⌜ r ≡ place-of (text-words.lower b) ⌝ }
+fn place_of(byte: u8) -> usize
+    requires { ⌜ letter byte ≡ true ⌝ }
+    ensures { λ r. ⌜ r ≡ place-of (text-words.lower byte) ⌝ }
 {
-    ((b & PLACE_BITS) - 1) as usize
+    ((byte & PLACE_BITS) - 1) as usize
 }
 
 // The first row with the length and, case aside, the first letter of a word.
-fn first_near(words: &[u8; 932], w: &[u8]) -> usize
-    requires { ⌜ (now words ≡ table) × (letter (at (now w) 0) ≡ true) ⌝ }
-    ensures { λ r. ⌜ First (near-to (now (w .entry))) 0 r ⌝ }
+fn first_near(words: &[u8; TABLE_SIZE], word: &[u8]) -> usize
+    requires { ⌜ (now words ≡ table) × (letter (at (now word) 0) ≡ true) ⌝ }
+    ensures { λ r. ⌜ First (near-to (now (word .entry))) 0 r ⌝ }
 {
-    let n = w.len();
-    if n < SHORTEST {
+    let size = word.len();
+    if size < SHORTEST {
         return ROWS;
     }
-    if LONGEST < n {
+    if LONGEST < size {
         return ROWS;
     }
-    words[INDEX + (place_of(w[0]) * LENGTHS + (n - SHORTEST))] as usize
+    words[INDEX + (place_of(word[0]) * LENGTHS + (size - SHORTEST))] as usize
 }
 
 // The next row with the length and, case aside, the first letter of this one.
-fn next_near(words: &[u8; 932], row: usize) -> usize
-    requires { ⌜ (now words ≡ table) × (row < 48) ⌝ }
+fn next_near(words: &[u8; TABLE_SIZE], row: usize) -> usize
+    requires { ⌜ (now words ≡ table) × (row < row-count) ⌝ }
     ensures { λ r. ⌜ First (near-to (spelling row)) (suc row) r ⌝ }
 {
-    words[row * WIDTH + NEXT] as usize
+    words[row * ROW_SIZE + NEXT] as usize
 }
 
 // The kind of the keyword in a row.
-fn kind_of(words: &[u8; 932], row: usize) -> u32
-    requires { ⌜ (now words ≡ table) × (row < 48) ⌝ }
-    ensures { λ r. ⌜ r ≡ 16 + row ⌝ }
+fn kind_of(words: &[u8; TABLE_SIZE], row: usize) -> u32
+    requires { ⌜ (now words ≡ table) × (row < row-count) ⌝ }
+    ensures { λ r. ⌜ r ≡ first-keyword + row ⌝ }
 {
-    words[row * WIDTH + KIND] as u32
+    words[row * ROW_SIZE + KIND] as u32
 }
 
 // Compares a word with a keyword that has its length and, case aside, its first letter.
-fn likeness_to(words: &[u8; 932], row: usize, w: &[u8]) -> Likeness
-    requires { ⌜ (now words ≡ table) × (row < 48) ⌝ }
-    requires { ⌜ (near-to (now w) (spelling row) ≡ true) × (0 < length (now w)) ⌝ }
-    ensures { λ r. ⌜ r ≡ likeness (now (w .entry)) (spelling row) ⌝ }
+fn likeness_to(words: &[u8; TABLE_SIZE], row: usize, word: &[u8]) -> Likeness
+    requires { ⌜ (now words ≡ table) × (row < row-count) ⌝ }
+    requires { ⌜ (near-to (now word) (spelling row) ≡ true) × (0 < length (now word)) ⌝ }
+    ensures { λ r. ⌜ r ≡ likeness (now (word .entry)) (spelling row) ⌝ }
 {
     let all = &words[..];
-    let start = row * WIDTH;
-    let end = start + w.len();
-    likeness_of(w, &all[start..end])
+    let start = row * ROW_SIZE;
+    let end = start + word.len();
+    likeness_of(word, &all[start..end])
 }
 
 // Sorts a word, by the rows that have its length and, case aside, its first letter.
-fn sorted(words: &[u8; 932], w: &[u8]) -> Lexeme
-    requires { ⌜ (now words ≡ table) × (letter (at (now w) 0) ≡ true) ⌝ }
-    ensures { λ r. ⌜ r ≡ text-words.sorted (now (w .entry)) (length (now (w .entry))) ⌝ }
+fn sorted(words: &[u8; TABLE_SIZE], word: &[u8]) -> Lexeme
+    requires { ⌜ (now words ≡ table) × (letter (at (now word) 0) ≡ true) ⌝ }
+    ensures { λ r. ⌜ r ≡ text-words.sorted (now (word .entry)) (length (now (word .entry))) ⌝ }
 {
-    let mut row = first_near(words, w);
+    let mut row = first_near(words, word);
     while row < ROWS {
-        match likeness_to(words, row, w) {
-            Likeness::Same => return Lexeme::Token(kind_of(words, row), w.len()),
+        match likeness_to(words, row, word) {
+            Likeness::Same => return Lexeme::Token(kind_of(words, row), word.len()),
             Likeness::ButCase => return Lexeme::OtherCase(kind_of(words, row)),
             Likeness::Different => row = next_near(words, row),
         }
     }
-    Lexeme::Token(1, w.len())
+    Lexeme::Token(kind::IDENTIFIER, word.len())
 }
 
 // A word, at the front of the rest of a text.
-pub fn word(words: &[u8; 932], bs: &[u8]) -> Lexeme
-    requires { ⌜ (now words ≡ table) × (letter (at (now bs) 0) ≡ true) ⌝ }
-    ensures { λ r. ⌜ r ≡ text-words.word (now (bs .entry)) ⌝ }
+pub fn word(words: &[u8; TABLE_SIZE], rest: &[u8]) -> Lexeme
+    requires { ⌜ (now words ≡ table) × (letter (at (now rest) 0) ≡ true) ⌝ }
+    ensures { λ r. ⌜ r ≡ text-words.word (now (rest .entry)) ⌝ }
 {
-    let n = text::word_run(bs);
-    sorted(words, &bs[..n])
+    let size = text::word_run(rest);
+    sorted(words, &rest[..size])
 }
 
 // A word with an underscore before it.
-pub fn escaped_word(bs: &[u8]) -> Lexeme
-    requires { ⌜ 0 < length (now bs) ⌝ }
-    ensures { λ r. ⌜ r ≡ text-words.escaped-word (now (bs .entry)) ⌝ }
+pub fn escaped_word(rest: &[u8]) -> Lexeme
+    requires { ⌜ 0 < length (now rest) ⌝ }
+    ensures { λ r. ⌜ r ≡ text-words.escaped-word (now (rest .entry)) ⌝ }
 {
-    Lexeme::Token(1, text::word_run(&bs[1..]) + 1)
+    Lexeme::Token(kind::IDENTIFIER, text::word_run(&rest[1..]) + 1)
 }

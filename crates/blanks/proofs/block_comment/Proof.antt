@@ -12,18 +12,6 @@ use Rattle.blanks.proofs.Reach.{close-within}
 use Rattle.blanks.proofs.block_comment.Statement.{statement}
 use Rattle.blanks.proofs.block_comment.Tie as tie
 
-sub-to-close : tie.Need-sub-to-close
-sub-to-close c = search needs
-
-part-to-close-start : tie.Need-part-to-close-start
-part-to-close-start c = search needs
-
-part-to-close-end : tie.Need-part-to-close-end
-part-to-close-end c = search needs
-
-to-close-requires : tie.Need-to-close-requires
-to-close-requires c κs = search needs
-
 found : (c : tie.After-to-close) → c .to-close .result ≡ to-close (drop 2 (c .before .before .before .args .bs .now))
 found c = c .to-close .ensures ∙ ap to-close (rest (c .before .before .before .args .bs .now) 2)
 
@@ -48,11 +36,4 @@ returns-2 c = closed-some _ (c .if1 .left) ∙ ap closed (found (c .before))
 pub block-comment-spec : {M : Type 1} → statement M
 block-comment-spec =
     tie.close
-    (tie.spec
-    sub-to-close
-    part-to-close-start
-    part-to-close-end
-    to-close-requires
-    add-t9
-    returns
-    returns-2)
+    (tie.spec (search needs) (search needs) (search needs) (search needs) add-t9 returns returns-2)

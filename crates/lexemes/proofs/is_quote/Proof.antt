@@ -1,6 +1,7 @@
--- `lexemes::is_quote` meets its contract: a quote is byte 34 or byte 39.
+-- `lexemes::is_quote` meets its contract: a quote is single or double.
 -- Each arm rewrites by the byte that it names, or by its being neither. Assumes nothing.
 use mathlib.Core.Logic.{inl, inr, ⊎-elim}
+use Prim.Native.Char.{code}
 use borrow.Author.Tests.{ne-eqb}
 use Rattle.text.specs.Literals.{quote}
 use Rattle.lexemes.proofs.is_quote.Statement.{statement}
@@ -13,7 +14,7 @@ returns c = ⊎-elim (λ e. rw e) (λ e. rw e) (c .match .keys1)
 returns-2 : tie.Need-returns-2
 unfolding quote
 returns-2 c =
-    simp (ne-eqb (c .before .args .b) 34 (λ e. c .match .rest .1 (inl e)), ne-eqb (c .before .args .b) 39 (λ e. c .match .rest .1 (inr e)))
+    simp (ne-eqb (c .before .args .byte) (code "\"") (λ e. c .match .rest .1 (inl e)), ne-eqb (c .before .args .byte) (code "'") (λ e. c .match .rest .1 (inr e)))
 
 pub is-quote-spec : {M : Type 1} → statement M
 is-quote-spec = tie.close (tie.spec returns returns-2)

@@ -104,29 +104,7 @@ returns-9 c =
 pub lexeme-spec : {M : Type 1} → statement M
 lexeme-spec =
     tie.close
-    (tie.spec
-    (λ c. search needs)
-    (λ c κs. search needs)
-    wide-or-word-requires
-    (λ c. c .wide-or-word .ensures)
-    (λ c κs. search needs)
-    (λ c κs. search needs)
-    returns-2
-    slash-requires
-    (λ c κs. search needs)
-    (λ c κs. search needs)
-    underscore-requires
-    (λ c κs. search needs)
-    (λ c κs. search needs)
-    (λ c κs. search needs)
-    mark-requires
-    returns-3
-    (λ c κs. search needs)
-    (λ c κs. search needs)
-    (λ c κs. search needs)
-    returns-4
-    (λ c. c .slash .ensures)
-    returns-6
-    (λ c. c .underscore .ensures)
-    returns-8
-    returns-9)
+    (tie.spec (search needs) (search needs) wide-or-word-requires (λ c. c .wide-or-word .ensures) (search needs)
+    (search needs) returns-2 slash-requires (search needs) (search needs) underscore-requires (search needs)
+    (search needs) (search needs) mark-requires returns-3 (search needs) (search needs) (search needs) returns-4
+    (λ c. c .slash .ensures) returns-6 (λ c. c .underscore .ensures) returns-8 returns-9)

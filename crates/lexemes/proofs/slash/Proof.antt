@@ -32,10 +32,4 @@ returns-3 c =
 pub slash-spec : {M : Type 1} → statement M
 slash-spec =
     tie.close
-    (tie.spec
-    (λ c κs. search needs)
-    line-comment-requires
-    returns
-    block-comment-requires
-    returns-2
-    returns-3)
+    (tie.spec (search needs) line-comment-requires returns block-comment-requires returns-2 returns-3)

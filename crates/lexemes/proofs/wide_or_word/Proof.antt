@@ -37,12 +37,5 @@ returns-2 c =
 pub wide-or-word-spec : {M : Type 1} → statement M
 wide-or-word-spec =
     tie.close
-    (tie.spec
-    (λ c. search needs)
-    (λ c κs. search needs)
-    (λ c κs. search needs)
-    (λ c κs. search needs)
-    (λ c κs. search needs)
-    returns
-    (λ c κs. let start = c .before .before .before in (start .pre .0 .0, start .pre .1))
-    returns-2)
+    (tie.spec (search needs) (search needs) (search needs) (search needs) (search needs) returns
+    (λ c κs. let start = c .before .before .before in (start .pre .0 .0, start .pre .1)) returns-2)

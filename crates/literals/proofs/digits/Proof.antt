@@ -14,12 +14,6 @@ use Rattle.literals.proofs.digits.Tie as tie
 slice-aggregate-run-of : tie.Need-slice-aggregate-run-of
 slice-aggregate-run-of c = simp length-take (omega arith)
 
-run-of-requires : tie.Need-run-of-requires
-run-of-requires c κs = search needs
-
-run-of-requires-2 : tie.Need-run-of-requires-2
-run-of-requires-2 c κs = search needs
-
 returns : tie.Need-returns
 unfolding digits
 returns c = c .run-of .ensures
@@ -31,5 +25,4 @@ returns-2 c =
     c .run-of2 .ensures ∙ sym (ap (run (member (args .class))) (take-all (args .most) (args .bs .now) (c .before .if1 .left)))
 
 pub digits-spec : {M : Type 1} → statement M
-digits-spec =
-    tie.close (tie.spec slice-aggregate-run-of run-of-requires run-of-requires-2 returns returns-2)
+digits-spec = tie.close (tie.spec slice-aggregate-run-of (search needs) (search needs) returns returns-2)

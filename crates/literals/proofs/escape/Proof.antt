@@ -1,5 +1,5 @@
 -- `literals::escape` meets its contract: the letter after the backslash decides in the order of the definition.
--- Each test is that of the definition, on the first byte; at the end of the text stands 256, which passes none. Assumes nothing.
+-- Each test is that of the definition, on the first byte; past the end stands no byte, which passes none. Assumes nothing.
 use mathlib.Core.Path.{_≡_, refl, sym, _∙_, ap}
 use mathlib.Core.Bool.{Bool, cond}
 use mathlib.Core.List.{List, [], _∷_}
@@ -12,7 +12,7 @@ use Rattle.text.specs.Bytes.{at, octal}
 use Rattle.text.specs.Literals.{simple, no-character, hexadecimal-digits, hexadecimal-escape, escape}
 use Rattle.text.specs.declared.Piece.the-variants.{Unclosed}
 use Rattle.text.proofs.Rests.{rest}
-use Rattle.literals.proofs.Front.{seen}
+use Rattle.text.proofs.Runs.{seen}
 use borrow.Author.Needs.{needs}
 use Rattle.literals.proofs.escape.Statement.{statement}
 use Rattle.literals.proofs.escape.Tie as tie
@@ -25,23 +25,11 @@ at-end wide (b ∷ bs) e = absurd (omega arith)
 returns : tie.Need-returns
 returns c = at-end _ _ (c .if1 .taken)
 
-shared-slice-read-b : tie.Need-shared-slice-read-b
-shared-slice-read-b c = search needs
-
-is-simple-requires : tie.Need-is-simple-requires
-is-simple-requires c κs = search needs
-
 returns-2 : tie.Need-returns-2
 unfolding escape
 returns-2 c =
     let start = c .before .before .before in
-    rw (seen (start .before .before .args .bs .now) (start .if1 .left) simple (c .before .is-simple .ensures) (c .if2 .taken))
-
-is-octal-requires : tie.Need-is-octal-requires
-is-octal-requires c κs = search needs
-
-octal-escape-requires : tie.Need-octal-escape-requires
-octal-escape-requires c κs = search needs
+    rw (seen (start .before .before .args .bs .now) (omega arith) simple (c .before .is-simple .ensures) (c .if2 .taken))
 
 returns-3 : tie.Need-returns-3
 unfolding escape
@@ -51,27 +39,9 @@ returns-3 c =
     let start = simples .before .before in
     let bs = start .before .before .args .bs .now in
     rw (
-      seen bs (start .if1 .left) simple (simples .is-simple .ensures) (octals .before .if2 .left),
-      seen bs (start .if1 .left) octal (octals .is-octal .ensures) (c .before .if3 .taken),
+      seen bs (omega arith) simple (simples .is-simple .ensures) (octals .before .if2 .left),
+      seen bs (omega arith) octal (octals .is-octal .ensures) (c .before .if3 .taken),
     ) (c .octal-escape .ensures)
-
-hexadecimal-digits-requires : tie.Need-hexadecimal-digits-requires
-hexadecimal-digits-requires c κs = search needs
-
-sub-hexadecimal-escape : tie.Need-sub-hexadecimal-escape
-sub-hexadecimal-escape c = search needs
-
-part-hexadecimal-escape-start : tie.Need-part-hexadecimal-escape-start
-part-hexadecimal-escape-start c = search needs
-
-part-hexadecimal-escape-end : tie.Need-part-hexadecimal-escape-end
-part-hexadecimal-escape-end c = search needs
-
-hexadecimal-escape-requires : tie.Need-hexadecimal-escape-requires
-hexadecimal-escape-requires c κs = search needs
-
-no-character-requires : tie.Need-no-character-requires
-no-character-requires c κs = search needs
 
 -- no letter of two bytes and no octal digit stands first: how many hex digits there may be decides
 other : (c : tie.After-hexadecimal-digits) →
@@ -85,9 +55,9 @@ other c =
     let start = simples .before .before in
     let args = start .before .before .args in
     rw (
-      seen (args .bs .now) (start .if1 .left) simple (simples .is-simple .ensures) (octals .before .if2 .left),
-      seen (args .bs .now) (start .if1 .left) octal (octals .is-octal .ensures) (c .before .if3 .left),
-      seen (args .bs .now) (start .if1 .left) (hexadecimal-digits (args .wide)) (c .hexadecimal-digits .ensures) refl,
+      seen (args .bs .now) (omega arith) simple (simples .is-simple .ensures) (octals .before .if2 .left),
+      seen (args .bs .now) (omega arith) octal (octals .is-octal .ensures) (c .before .if3 .left),
+      seen (args .bs .now) (omega arith) (hexadecimal-digits (args .wide)) (c .hexadecimal-digits .ensures) refl,
     )
 
 returns-4 : tie.Need-returns-4
@@ -105,19 +75,5 @@ returns-5 c =
 pub escape-spec : {M : Type 1} → statement M
 escape-spec =
     tie.close
-    (tie.spec
-    returns
-    shared-slice-read-b
-    is-simple-requires
-    returns-2
-    is-octal-requires
-    octal-escape-requires
-    returns-3
-    hexadecimal-digits-requires
-    sub-hexadecimal-escape
-    part-hexadecimal-escape-start
-    part-hexadecimal-escape-end
-    hexadecimal-escape-requires
-    no-character-requires
-    returns-4
-    returns-5)
+    (tie.spec returns (search needs) (search needs) returns-2 (search needs) (search needs) returns-3 (search needs)
+    (search needs) (search needs) (search needs) (search needs) (search needs) returns-4 returns-5)

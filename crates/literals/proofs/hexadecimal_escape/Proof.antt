@@ -11,19 +11,10 @@ use borrow.Author.Needs.{needs}
 use Rattle.literals.proofs.hexadecimal_escape.Statement.{statement}
 use Rattle.literals.proofs.hexadecimal_escape.Tie as tie
 
-digits-requires : tie.Need-digits-requires
-digits-requires c κs = search needs
-
-no-character-requires : tie.Need-no-character-requires
-no-character-requires c κs = search needs
-
 slice-aggregate-numbered : tie.Need-slice-aggregate-numbered
 slice-aggregate-numbered c =
     let args = c .before .before .before .before .args in
     simp length-take (omega (arith, digits-le hexadecimal (args .most) (args .bs .now), c .before .before .digits .ensures))
-
-numbered-requires : tie.Need-numbered-requires
-numbered-requires c κs = search needs
 
 returns : tie.Need-returns
 unfolding hexadecimal-escape
@@ -38,10 +29,4 @@ returns-2 c =
 pub hexadecimal-escape-spec : {M : Type 1} → statement M
 hexadecimal-escape-spec =
     tie.close
-    (tie.spec
-    digits-requires
-    no-character-requires
-    slice-aggregate-numbered
-    numbered-requires
-    returns
-    returns-2)
+    (tie.spec (search needs) (search needs) slice-aggregate-numbered (search needs) returns returns-2)

@@ -5,12 +5,9 @@ use borrow.Author.Needs.{needs}
 use Rattle.literals.proofs.literal.Statement.{statement}
 use Rattle.literals.proofs.literal.Tie as tie
 
-quoted-requires : tie.Need-quoted-requires
-quoted-requires c κs = search needs
-
 returns : tie.Need-returns
 unfolding literal
 returns c = c .quoted .ensures
 
 pub literal-spec : {M : Type 1} → statement M
-literal-spec = tie.close (tie.spec quoted-requires returns)
+literal-spec = tie.close (tie.spec (search needs) returns)

@@ -6,12 +6,6 @@ use borrow.Author.Needs.{needs}
 use Rattle.literals.proofs.numbered.Statement.{statement}
 use Rattle.literals.proofs.numbered.Tie as tie
 
-add-n : tie.Need-add-n
-add-n c = search needs
-
-zeros-requires : tie.Need-zeros-requires
-zeros-requires c κs = search needs
-
 returns : tie.Need-returns
 unfolding numbered
 returns c = rw (sym (c .before .zeros .ensures) ∙ c .if1 .taken)
@@ -21,4 +15,4 @@ unfolding numbered
 returns-2 c = rw (sym (c .before .zeros .ensures) ∙ c .if1 .left)
 
 pub numbered-spec : {M : Type 1} → statement M
-numbered-spec = tie.close (tie.spec add-n zeros-requires returns returns-2)
+numbered-spec = tie.close (tie.spec (search needs) (search needs) returns returns-2)

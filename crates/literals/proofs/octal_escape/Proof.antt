@@ -10,19 +10,10 @@ use borrow.Author.Needs.{needs}
 use Rattle.literals.proofs.octal_escape.Statement.{statement}
 use Rattle.literals.proofs.octal_escape.Tie as tie
 
-digits-requires : tie.Need-digits-requires
-digits-requires c κs = search needs
-
-above-377-requires : tie.Need-above-377-requires
-above-377-requires c κs = search needs
-
 slice-aggregate-numbered : tie.Need-slice-aggregate-numbered
 slice-aggregate-numbered c =
     let bs = c .before .before .before .before .before .args .bs .now in
     simp length-take (omega (arith, digits-le octal 3 bs, c .before .before .before .digits .ensures))
-
-numbered-requires : tie.Need-numbered-requires
-numbered-requires c κs = search needs
 
 returns : tie.Need-returns
 unfolding octal-escape
@@ -37,10 +28,4 @@ returns-2 c =
 pub octal-escape-spec : {M : Type 1} → statement M
 octal-escape-spec =
     tie.close
-    (tie.spec
-    digits-requires
-    above-377-requires
-    slice-aggregate-numbered
-    numbered-requires
-    returns
-    returns-2)
+    (tie.spec (search needs) (search needs) slice-aggregate-numbered (search needs) returns returns-2)

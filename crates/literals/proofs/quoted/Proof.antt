@@ -1,21 +1,20 @@
--- `literals::quoted` meets its contract: the quote decides between a character and a string, and where there is none stands no literal.
+-- `literals::quoted` meets its contract: the quote decides between a character and a string; without one there is no literal.
 -- A quote is a byte, so the place after it is in the text or at its end. Assumes nothing.
 use mathlib.Core.Path.{sym, _∙_}
+use Prim.Native.Char.{code}
 use Prim.Native.Nat.{_<_}
 use native.Mathlib.Omega.{arith}
 use borrow.Author.Tests.{ne-eqb}
 use lib.ListN.{length}
+use Rattle.text.specs.Bytes.{end}
 use Rattle.text.specs.Literals.{quoted}
 use Rattle.text.proofs.Rests.{byte-inside}
 use borrow.Author.Needs.{needs}
 use Rattle.literals.proofs.quoted.Statement.{statement}
 use Rattle.literals.proofs.quoted.Tie as tie
 
-byte-at-requires : tie.Need-byte-at-requires
-byte-at-requires c κs = search needs
-
 -- a quote stands in the text
-inside : (c : tie.After-byte-at) → c .byte-at .result < 256 → c .before .before .args .before < length (c .before .before .args .bs .now)
+inside : (c : tie.After-byte-at) → c .byte-at .result < end → c .before .before .args .before < length (c .before .before .args .bs .now)
 inside c h = byte-inside (c .before .before .args .bs .now) (c .before .before .args .before) (omega (arith, c .byte-at .ensures))
 
 add-character : tie.Need-add-character
@@ -42,17 +41,9 @@ returns-3 : tie.Need-returns-3
 unfolding quoted
 returns-3 c =
     let b = c .before .byte-at .result in
-    rw (← c .before .byte-at .ensures, ne-eqb b 39 (c .match .rest .0 .1), ne-eqb b 34 (c .match .rest .1))
+    rw (← c .before .byte-at .ensures, ne-eqb b (code "'") (c .match .rest .0 .1), ne-eqb b (code "\"") (c .match .rest .1))
 
 pub quoted-spec : {M : Type 1} → statement M
 quoted-spec =
     tie.close
-    (tie.spec
-    byte-at-requires
-    add-character
-    character-requires
-    add-string
-    string-requires
-    returns
-    returns-2
-    returns-3)
+    (tie.spec (search needs) add-character character-requires add-string string-requires returns returns-2 returns-3)

@@ -5,12 +5,9 @@ use borrow.Author.Needs.{needs}
 use Rattle.literals.proofs.wide_literal.Statement.{statement}
 use Rattle.literals.proofs.wide_literal.Tie as tie
 
-quoted-requires : tie.Need-quoted-requires
-quoted-requires c κs = search needs
-
 returns : tie.Need-returns
 unfolding wide-literal
 returns c = c .quoted .ensures
 
 pub wide-literal-spec : {M : Type 1} → statement M
-wide-literal-spec = tie.close (tie.spec quoted-requires returns)
+wide-literal-spec = tie.close (tie.spec (search needs) returns)

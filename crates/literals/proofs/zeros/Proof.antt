@@ -8,25 +8,16 @@ use Rattle.literals.proofs.zeros.Statement.{statement}
 use Rattle.literals.proofs.zeros.Tie as tie
 
 abbrev Inv-loop : tie.InvT-loop
-Inv-loop digits n₀ n = Passed digits n
+Inv-loop digits place₀ place = Passed digits place
 
 abbrev μ-loop : tie.MeasureT-loop
-μ-loop digits n₀ n = length digits - n
+μ-loop digits place₀ place = length digits - place
 
 loop-holds : tie.Need-loop-holds Inv-loop μ-loop
 loop-holds c = passed-none _
 
-shared-slice-read-if1 : tie.Need-shared-slice-read-if1 Inv-loop μ-loop
-shared-slice-read-if1 c = search needs
-
 returns : tie.Need-returns Inv-loop μ-loop
 returns c = passed-stop _ (c .before .before .loop-test .taken) (c .if1 .taken) (c .before .before .before .loop .inv)
-
-add-n : tie.Need-add-n Inv-loop μ-loop
-add-n c = search needs
-
-loop-less : tie.Need-loop-less Inv-loop μ-loop
-loop-less c = search needs
 
 loop-again : tie.Need-loop-again Inv-loop μ-loop
 loop-again c = passed-more _ (c .before .before .loop-test .taken) (c .if1 .left) (c .before .before .before .loop .inv)
@@ -37,13 +28,4 @@ returns-2 c = passed-all _ (c .loop-test .left) (c .before .loop .inv)
 pub zeros-spec : {M : Type 1} → statement M
 zeros-spec =
     tie.close
-    (tie.spec
-    Inv-loop
-    μ-loop
-    loop-holds
-    shared-slice-read-if1
-    returns
-    add-n
-    loop-less
-    loop-again
-    returns-2)
+    (tie.spec Inv-loop μ-loop loop-holds (search needs) returns (search needs) (search needs) loop-again returns-2)

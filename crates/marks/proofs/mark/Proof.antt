@@ -35,9 +35,6 @@ single : (bs : List ℕ) {one : ℕ} → 0 ≡ kinds.mark (at bs 0 ∷ at bs 1 �
 unfolding choice
 single bs e f g = sym (rw g) ∙ chosen bs e f
 
-shared-slice-read-b : tie.Need-shared-slice-read-b
-shared-slice-read-b c = start-inside (c .before .before .args .bs .now) (c .before .before .pre)
-
 returns : tie.Need-returns
 unfolding choice
 returns c =
@@ -65,6 +62,4 @@ returns-2 c =
     single bs (not-two c) one (ap (ltb 0) one ∙ start .pre)
 
 pub mark-spec : {M : Type 1} → statement M
-mark-spec =
-    tie.close
-    (tie.spec shared-slice-read-b (λ c κs. search needs) returns (λ c κs. search needs) returns-2)
+mark-spec = tie.close (tie.spec (λ c. start-inside (c .before .before .args .bs .now) (c .before .before .pre)) (search needs) returns (search needs) returns-2)

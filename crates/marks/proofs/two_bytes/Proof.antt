@@ -5,9 +5,10 @@ use mathlib.Core.List.{List, [], _∷_}
 use Prim.Native.Nat.{ℕ, _≤_}
 use native.Mathlib.Omega.{arith}
 use borrow.Author.Needs.{needs}
-use lib.ListN.{length, getD, List·getD-eq-default}
-use Rattle.kinds.specs.Kinds.{bytes, same, search-from, marks, mark}
-use Rattle.text.specs.Bytes.{at}
+use lib.ListN.{length, getD}
+use Rattle.kinds.specs.Kinds.{bytes, mark}
+use Rattle.text.specs.Bytes.{end, at}
+use Rattle.text.proofs.Rests.{past-end}
 use Rattle.text.proofs.Runs.{at-inside}
 use Rattle.marks.proofs.Spellings.{apart, no-second, differ}
 use Rattle.marks.proofs.two_bytes.Statement.{statement}
@@ -19,13 +20,7 @@ twice b = mark (b ∷ b ∷ [])
 returns : tie.Need-returns
 returns c =
     let bs = c .before .args .bs .now in
-    no-second (at bs 0) ∙ ap (λ (y : ℕ). mark (at bs 0 ∷ y ∷ [])) (sym (List·getD-eq-default bs 256 (omega arith)))
-
-shared-slice-read-b : tie.Need-shared-slice-read-b
-shared-slice-read-b c = search needs
-
-shared-slice-read-if2 : tie.Need-shared-slice-read-if2
-shared-slice-read-if2 c = search needs
+    no-second (at bs 0) ∙ ap (λ (y : ℕ). mark (at bs 0 ∷ y ∷ [])) (sym (past-end bs (omega arith)))
 
 -- two bytes inside the text
 inside : (bs : List ℕ) → 2 ≤ length bs → mark (getD bs 0 0 ∷ getD bs 1 0 ∷ []) ≡ mark (at bs 0 ∷ at bs 1 ∷ [])
@@ -43,24 +38,24 @@ both c =
     ap (λ (y : ℕ). mark (getD bs 0 0 ∷ y ∷ [])) (sym (c .if2 .left)) ∙ inside bs (c .before .before .before .if1 .left)
 
 returns-3 : tie.Need-returns-3
-unfolding bytes same search-from marks mark
+unfolding mark
 returns-3 c = sym (ap twice (c .match .keys1)) ∙ both (c .before)
 
 returns-4 : tie.Need-returns-4
-unfolding bytes same search-from marks mark
+unfolding mark
 returns-4 c = sym (ap twice (c .match .keys2)) ∙ both (c .before)
 
 returns-5 : tie.Need-returns-5
-unfolding bytes same search-from marks mark
+unfolding mark
 returns-5 c = sym (ap twice (c .match .keys3)) ∙ both (c .before)
 
 returns-6 : tie.Need-returns-6
-unfolding bytes same search-from marks mark
+unfolding mark
 returns-6 c =
     let byte = c .before .before .before .shared-slice-known .given 0 .fits in
-    apart twice (bytes "><:") 0 256 tt (omega arith, byte) (c .match .rest) ∙ both (c .before)
+    apart twice (bytes "><:") 0 end tt (omega arith, byte) (c .match .rest) ∙ both (c .before)
 
 pub two-bytes-spec : {M : Type 1} → statement M
 two-bytes-spec =
     tie.close
-    (tie.spec returns shared-slice-read-b shared-slice-read-if2 returns-2 returns-3 returns-4 returns-5 returns-6)
+    (tie.spec returns (search needs) (search needs) returns-2 returns-3 returns-4 returns-5 returns-6)

@@ -8,9 +8,6 @@ use Rattle.numbers.proofs.Integers.{integer-decimal, integer-hexadecima
 use Rattle.numbers.proofs.integer.Statement.{statement}
 use Rattle.numbers.proofs.integer.Tie as tie
 
-stands-requires : tie.Need-stands-requires
-stands-requires c κs = search needs
-
 abbrev start : tie.After-stands → tie.Start
 start c = c .before .before
 
@@ -19,16 +16,10 @@ returns c =
     let s = start (c .before) in
     s .pre ∙ sym (integer-decimal (s .args .bs .now) (sym (c .before .stands .ensures) ∙ not-true _ (c .if1 .taken)))
 
-hexadecimal-integer-requires : tie.Need-hexadecimal-integer-requires
-hexadecimal-integer-requires c κs = search needs
-
 returns-2 : tie.Need-returns-2
 returns-2 c =
     let size = c .before .hexadecimal-integer .ensures in
     size ∙ sym (integer-hexadecimal (start (c .before .before .before) .args .bs .now) (omega (arith, c .if2 .taken)))
-
-octal-integer-requires : tie.Need-octal-integer-requires
-octal-integer-requires c κs = search needs
 
 returns-3 : tie.Need-returns-3
 returns-3 c =
@@ -39,12 +30,4 @@ returns-3 c =
     ∙ sym (integer-octal (start (zero-digit .before) .args .bs .now) stood (omega (arith, c .before .if2 .left)))
 
 pub integer-spec : {M : Type 1} → statement M
-integer-spec =
-    tie.close
-    (tie.spec
-    stands-requires
-    returns
-    hexadecimal-integer-requires
-    returns-2
-    octal-integer-requires
-    returns-3)
+integer-spec = tie.close (tie.spec (search needs) returns (search needs) returns-2 (search needs) returns-3)

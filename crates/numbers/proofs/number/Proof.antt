@@ -4,10 +4,10 @@ use mathlib.Core.Path.{_≡_, ap, sym, _∙_}
 use mathlib.Core.Bool.{false}
 use mathlib.Core.List.{List}
 use Prim.Native.Char.{code}
-use Prim.Native.Nat.{ℕ, _+_, _<_}
+use Prim.Native.Nat.{ℕ, _+_, _≤_, _<_}
 use native.Mathlib.Omega.{arith}
 use borrow.Author.Needs.{needs}
-use lib.ListN.{drop}
+use lib.ListN.{length, drop}
 use Rattle.kinds.specs.Kinds as kinds
 use Rattle.text.specs.Bytes.{at}
 use Rattle.text.specs.Numbers.{either, mantissa, exponent, followed}
@@ -17,12 +17,6 @@ use Rattle.numbers.proofs.Forms.{power, fixed-letter, number-none, numb
 use Rattle.numbers.proofs.number.Statement.{statement}
 use Rattle.numbers.proofs.number.Tie as tie
 
-run-of-requires : tie.Need-run-of-requires
-run-of-requires c κs = search needs
-
-mantissa-requires : tie.Need-mantissa-requires
-mantissa-requires c κs = search needs
-
 abbrev bytes : tie.After-mantissa → List ℕ
 bytes c = c .before .before .before .args .bs .now
 
@@ -31,9 +25,6 @@ returns c = number-none (bytes (c .before)) (sym (c .before .mantissa .ensures) 
 
 some : (c : tie.Else1) → 0 < mantissa (bytes (c .before))
 some c = omega (arith, c .before .mantissa .ensures, c .if1 .left)
-
-either-requires : tie.Need-either-requires
-either-requires c κs = search needs
 
 letter : (c : tie.After-either) → fixed-letter (bytes (c .before .before)) ≡ c .either .result
 letter c =
@@ -47,9 +38,6 @@ add-followed c =
     let fixed = letter (c .before) ∙ c .if2 .taken in
     omega (arith, m .mantissa .ensures, either-within (bytes m) size (code "d") (code "D") (omega arith) (omega arith) fixed)
 
-followed-requires : tie.Need-followed-requires
-followed-requires c κs = search needs
-
 returns-2 : tie.Need-returns-2
 returns-2 c =
     let e = c .before .before in
@@ -58,17 +46,8 @@ returns-2 c =
     ∙ ap (λ (n : ℕ). followed (bytes m) kinds.fixed (n + 1)) (m .mantissa .ensures)
     ∙ number-fixed (bytes m) (some (e .before)) (letter e ∙ c .before .if2 .taken)
 
-sub-exponent : tie.Need-sub-exponent
-sub-exponent c = let m = c .before .before .before in omega (arith, m .mantissa .ensures, mantissa-within (bytes m))
-
-part-exponent-start : tie.Need-part-exponent-start
-part-exponent-start c = let m = c .before .before .before in omega (arith, m .mantissa .ensures, mantissa-within (bytes m))
-
-part-exponent-end : tie.Need-part-exponent-end
-part-exponent-end c = search needs
-
-exponent-requires : tie.Need-exponent-requires
-exponent-requires c κs = search needs
+fits : (c : tie.After-mantissa) → c .mantissa .result ≤ length (bytes c)
+fits c = omega (arith, c .mantissa .ensures, mantissa-within (bytes c))
 
 abbrev sized : tie.After-exponent → tie.After-mantissa
 sized c = c .before .before .before .before .before
@@ -84,9 +63,6 @@ end-is c =
 add-end : tie.Need-add-end
 add-end c = omega (arith, end-is c, power-within (bytes (sized c)))
 
-followed-requires-2 : tie.Need-followed-requires-2
-followed-requires-2 c κs = search needs
-
 -- no d or D after the mantissa
 plain : (c : tie.After-exponent) → fixed-letter (bytes (sized c)) ≡ false
 plain c = letter (c .before .before .before) ∙ c .before .before .if2 .left
@@ -100,12 +76,6 @@ returns-3 c =
     ∙ number-floating (bytes m) (some (x .before .before .before .before)) (plain x)
     (omega (arith, m .before .run-of .ensures, end-is x, c .before .if3 .taken))
 
-integer-requires : tie.Need-integer-requires
-integer-requires c κs = search needs
-
-followed-requires-3 : tie.Need-followed-requires-3
-followed-requires-3 c κs = search needs
-
 returns-4 : tie.Need-returns-4
 returns-4 c =
     let x = c .before .before .before in
@@ -118,21 +88,6 @@ returns-4 c =
 pub number-spec : {M : Type 1} → statement M
 number-spec =
     tie.close
-    (tie.spec
-    run-of-requires
-    mantissa-requires
-    returns
-    either-requires
-    add-followed
-    followed-requires
-    returns-2
-    sub-exponent
-    part-exponent-start
-    part-exponent-end
-    exponent-requires
-    add-end
-    followed-requires-2
-    returns-3
-    integer-requires
-    followed-requires-3
-    returns-4)
+    (tie.spec (search needs) (search needs) returns (search needs) add-followed (search needs) returns-2
+    (λ c. omega (arith, fits (c .before .before .before))) (λ c. omega (arith, fits (c .before .before .before)))
+    (search needs) (search needs) add-end (search needs) returns-3 (search needs) (search needs) returns-4)

@@ -6,9 +6,6 @@ use Rattle.text.specs.Numbers.{sign}
 use Rattle.numbers.proofs.sign.Statement.{statement}
 use Rattle.numbers.proofs.sign.Tie as tie
 
-either-requires : tie.Need-either-requires
-either-requires c κs = search needs
-
 returns : tie.Need-returns
 unfolding sign
 returns c = rw (sym (c .before .either .ensures) ∙ c .if1 .taken)
@@ -18,4 +15,4 @@ unfolding sign
 returns-2 c = rw (sym (c .before .either .ensures) ∙ c .if1 .left)
 
 pub sign-spec : {M : Type 1} → statement M
-sign-spec = tie.close (tie.spec either-requires returns returns-2)
+sign-spec = tie.close (tie.spec (search needs) returns returns-2)

@@ -6,10 +6,10 @@ use Rattle.readers_core.proofs.is_too_deep.Statement.{statement}
 use Rattle.readers_core.proofs.is_too_deep.Tie as tie
 
 returns : tie.Need-returns
-returns c = deep-if (c .before .args .s) (c .if1 .taken)
+returns c = deep-if (c .before .args .state) (c .if1 .taken)
 
 returns-2 : tie.Need-returns-2
-returns-2 c = rw (goes-on (c .before .args .s) (c .if1 .left)) refl
+returns-2 c = rw (goes-on (c .before .args .state) (c .if1 .left)) refl
 
 pub is-too-deep-spec : {M : Type 1} → statement M
 is-too-deep-spec = tie.close (tie.spec returns returns-2)

@@ -1,4 +1,4 @@
--- `kind_at` gives the token's kind: the number at three times the place, and 0 where the table does not reach so far.
+-- `kind_at` gives the token's kind: the first number of its record, and 0 where the table does not reach so far.
 -- By the test that led to each answer. Assumes nothing.
 use borrow.Author.Needs.{needs}
 use lib.ListN.{List·getD-eq-default}

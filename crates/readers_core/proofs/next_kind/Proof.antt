@@ -12,15 +12,15 @@ use Rattle.readers_core.proofs.next_kind.Tie as tie
 returns : tie.Need-returns
 returns c =
     let args = c .before .before .args in
-    ahead-none (args .tokens .now) (args .s) (has-stopped (args .s) (c .if1 .taken))
+    ahead-none (args .tokens .now) (args .state) (has-stopped (args .state) (c .if1 .taken))
 
 returns-2 : tie.Need-returns-2
 returns-2 c =
     let args = c .before .before .before .before .args in
     let if1 = c .before .before .if1 in
     (c .kind-at .ensures)
-    ∙ ap (λ (i : ℕ). kind-at (args .tokens .now) i) ((c .before .low .ensures) ∙ sym (going-at (args .s) (if1 .left)))
-    ∙ sym (ahead-kind (args .tokens .now) (args .s) (goes-on (args .s) (if1 .left)))
+    ∙ ap (λ (i : ℕ). kind-at (args .tokens .now) i) ((c .before .low .ensures) ∙ sym (going-at (args .state) (if1 .left)))
+    ∙ sym (ahead-kind (args .tokens .now) (args .state) (goes-on (args .state) (if1 .left)))
 
 pub next-kind-spec : {M : Type 1} → statement M
 next-kind-spec = tie.close (tie.spec returns (λ c κs. search needs) (λ c κs. search needs) returns-2)

@@ -28,15 +28,15 @@ returns-3 c =
     let low-start = c .before .before .before .before .low in
     let low-end = c .before .before .before .low2 in
     let put-node = c .before .before .put-node in
-    let low : view (args .s) .count < ceiling = omega (arith, if2 .left) in
+    let low : view (args .state) .count < ceiling = omega (arith, if2 .left) in
     record {
       wraps = λ is ks d hs t.
-          recorded-node is t (goes-on (args .s) (if1 .left)) low (counted-goes (args .s) low)
-          (counted-at (args .s) low) (counted-count (args .s) low)
+          recorded-node is t (goes-on (args .state) (if1 .left)) low (counted-goes (args .state) low)
+          (counted-at (args .state) low) (counted-count (args .state) low)
           (λ le le′. (put-node .ensures) ∙ write-below (args .tree .now) (args .rule) low (records .ensures)
-          ((low-start .ensures) ∙ started-at (args .s) low (args .start) le′)
-          ((low-end .ensures) ∙ sym (going-at (args .s) (if1 .left)))
-          (records2 .ensures ∙ counted-since (args .s) low (args .start) le′ le (omega arith) (wrapping-sub-u64 .ensures)));
+          ((low-start .ensures) ∙ started-at (args .state) low (args .start) le′)
+          ((low-end .ensures) ∙ sym (going-at (args .state) (if1 .left)))
+          (records2 .ensures ∙ counted-since (args .state) low (args .start) le′ le (omega arith) (wrapping-sub-u64 .ensures)));
     }
 
 pub node-spec : {M : Type 1} → statement M

@@ -22,29 +22,29 @@ returns c =
     let args = c .before .before .before .before .before .args in
     let found = (c .before .before .kind-at .ensures) ∙ ap (λ (i : ℕ). kind-at (args .tokens .now) i) (c .before .before .before .low .ensures) in
     let there = sym found ∙ (c .before .if1 .taken) in
-    opens-past (args .tokens .now) (args .mark) (args .s) (omega arith) (omega arith) there (c .if2 .taken)
+    opens-past (args .tokens .now) (args .mark) (args .state) (omega arith) (omega arith) there (c .if2 .taken)
 
 returns-2 : tie.Need-returns-2
-returns-2 c = opens-stopped (has-stopped (c .before .before .before .before .before .before .args .s) (c .if3 .taken)) refl refl
+returns-2 c = opens-stopped (has-stopped (c .before .before .before .before .before .before .args .state) (c .if3 .taken)) refl refl
 
 returns-3 : tie.Need-returns-3
 returns-3 c =
     let args = c .before .before .before .before .before .before .args in
-    let same = (c .before .before .before .before .low .ensures) ∙ sym (going-at (args .s) (c .if3 .left)) in
+    let same = (c .before .before .before .before .low .ensures) ∙ sym (going-at (args .state) (c .if3 .left)) in
     let found = (c .before .before .before .kind-at .ensures) ∙ ap (λ (i : ℕ). kind-at (args .tokens .now) i) same in
-    opens-deep (goes-on (args .s) (c .if3 .left)) (sym found ∙ (c .before .before .if1 .taken)) (omega arith) (sinks (args .s))
-    (sinks-there (args .s) (c .if3 .left))
+    opens-deep (goes-on (args .state) (c .if3 .left)) (sym found ∙ (c .before .before .if1 .taken)) (omega arith) (sinks (args .state))
+    (sinks-there (args .state) (c .if3 .left))
 
 returns-4 : tie.Need-returns-4
-returns-4 c = opens-stopped (has-stopped (c .before .before .before .before .before .args .s) (c .if4 .taken)) refl refl
+returns-4 c = opens-stopped (has-stopped (c .before .before .before .before .before .args .state) (c .if4 .taken)) refl refl
 
 returns-5 : tie.Need-returns-5
 returns-5 c =
     let args = c .before .before .before .before .before .args in
-    let same = (c .before .before .before .low .ensures) ∙ sym (going-at (args .s) (c .if4 .left)) in
+    let same = (c .before .before .before .low .ensures) ∙ sym (going-at (args .state) (c .if4 .left)) in
     let found = (c .before .before .kind-at .ensures) ∙ ap (λ (i : ℕ). kind-at (args .tokens .now) i) same in
-    opens-blamed (goes-on (args .s) (c .if4 .left)) (λ e. (c .before .if1 .left) (found ∙ e)) (blames (args .s))
-    (blames-there (args .s) (c .if4 .left))
+    opens-blamed (goes-on (args .state) (c .if4 .left)) (λ e. (c .before .if1 .left) (found ∙ e)) (blames (args .state))
+    (blames-there (args .state) (c .if4 .left))
 
 pub open-spec : {M : Type 1} → statement M
 open-spec =

@@ -23,22 +23,22 @@ returns c =
     let args = c .before .before .before .before .args in
     let found = (c .before .kind-at .ensures) ∙ ap (λ (i : ℕ). kind-at (args .tokens .now) i) (c .before .before .low .ensures) in
     let there = sym found ∙ (c .if1 .taken) in
-    record { reads = λ d w. record { in-any = λ start hs. moves-past (args .tokens .now) (args .kind) (args .s) (omega arith) (omega arith) there } }
+    record { reads = λ d w. record { in-any = λ start hs. moves-past (args .tokens .now) (args .kind) (args .state) (omega arith) (omega arith) there } }
 
 returns-2 : tie.Need-returns-2
 returns-2 c =
     let args = c .before .before .before .before .before .args in
-    record { reads = λ d w. record { in-any = λ start hs. stays (has-stopped (args .s) (c .if2 .taken)) } }
+    record { reads = λ d w. record { in-any = λ start hs. stays (has-stopped (args .state) (c .if2 .taken)) } }
 
 returns-3 : tie.Need-returns-3
 returns-3 c =
     let args = c .before .before .before .before .before .args in
-    let same = (c .before .before .before .low .ensures) ∙ sym (going-at (args .s) (c .if2 .left)) in
+    let same = (c .before .before .before .low .ensures) ∙ sym (going-at (args .state) (c .if2 .left)) in
     let found = (c .before .before .kind-at .ensures) ∙ ap (λ (i : ℕ). kind-at (args .tokens .now) i) same in
     record {
       reads = λ d w. record {
-        in-any = λ start hs. missed (goes-on (args .s) (c .if2 .left)) (λ e. (c .before .if1 .left) (found ∙ e))
-            (blames (args .s)) (blames-there (args .s) (c .if2 .left));
+        in-any = λ start hs. missed (goes-on (args .state) (c .if2 .left)) (λ e. (c .before .if1 .left) (found ∙ e))
+            (blames (args .state)) (blames-there (args .state) (c .if2 .left));
       };
     }
 

@@ -1,12 +1,9 @@
--- `positive_int_const` reads rule 41, which passes the node of rule 29 on.
+-- `positive_int_const` reads rule 41, which passes the node of a constant expression on.
 -- One nonterminal alone leaves no record. Assumes nothing.
-use Rattle.prediction.specs.Check.{table}
-use Rattle.prediction.specs.Columns.{plan-at, round}
-use Rattle.prediction.specs.IdlPlans.{idl-prediction}
+use Rattle.readers_core.proofs.Computing.{computing}
+use Rattle.grammar.specs.Names.{rule}
 use Rattle.readers_core.proofs.Frames.{passed-on}
-use Rattle.readers_core.proofs.Choosing.{Knows, choose, except}
-use Rattle.readers_core.proofs.Shapes.{leaves}
-use Rattle.readers_core.specs.Reading.{all-recorded, none-recorded}
+use Rattle.readers_core.proofs.Choosing.{except}
 use borrow.Author.Needs.{needs}
 use mathlib.Core.List.{[]}
 use mathlib.Core.Path.{refl}
@@ -14,10 +11,8 @@ use Rattle.readers_expressions.proofs.positive_int_const.Statement.{sta
 use Rattle.readers_expressions.proofs.positive_int_const.Tie as tie
 
 returns : tie.Need-returns
-unfolding table round plan-at idl-prediction choose Knows leaves all-recorded none-recorded
-returns c =
-    let const-exp = c .before .before .const-exp in
-    passed-on 41 (except []) refl tt refl tt (const-exp .ensures)
+unfolding computing
+returns c = passed-on (rule "positive_int_const") (except []) refl tt refl tt (c .before .before .const-exp .ensures)
 
 pub positive-int-const-spec : {M : Type 1} → statement M
 positive-int-const-spec = tie.close (tie.spec (λ c κs. search needs) (λ c. search needs) returns)

@@ -1,48 +1,34 @@
 -- `interface` reads by its plan: ":" or "{" tells that a body is there, and else the declaration is a forward one.
 -- What the plan comes to is what was called; rule 4 leaves no record. Assumes nothing.
-use Rattle.prediction.specs.Check.{table}
-use Rattle.prediction.specs.Columns.{plan-at, round}
-use Rattle.prediction.specs.IdlPlans.{idl-prediction}
-use Rattle.readers_core.proofs.Choosing.{Knows, among, choose, except}
+use Rattle.readers_core.proofs.Computing.{computing}
+use Rattle.kinds.specs.Lists.{kinds-of}
+use Rattle.readers_core.proofs.Choosing.{among, except}
 use Rattle.readers_core.proofs.Frames.{chosen}
+use Rattle.readers_core.proofs.Groups.{between}
 use Rattle.readers_core.proofs.Sequence.{_▸_, unrecorded}
-use Rattle.readers_core.proofs.Shapes.{leaves}
-use Rattle.readers_core.specs.Reading.{all-recorded, none-recorded}
+use Rattle.readers_core.proofs.Parts.{named}
 use mathlib.Core.Path.{refl}
 use borrow.Author.Needs.{needs}
 use mathlib.Core.List.{[], _∷_}
 use Rattle.readers_interfaces.proofs.interface.Statement.{statement}
 use Rattle.readers_interfaces.proofs.interface.Tie as tie
 
-returns : tie.Need-returns
-unfolding table round plan-at idl-prediction choose Knows leaves all-recorded none-recorded
-returns c =
-    let take = c .before .before .before .before .before .before .before .take in
-    let take2 = c .before .before .before .before .before .before .take2 in
-    let next-kind = c .before .before .before .before .before .next-kind in
-    let match-on = c .before .before .before .before .match in
-    let interface-dcl = c .before .before .interface-dcl in
-    record {
-      of-any = λ hs. (take .ensures .reads _ _ .in-any _ _) ▸ (take2 .ensures .reads _ _ .in-any _ _) ▸
-          chosen (among (65 ∷ 67 ∷ [])) (next-kind .ensures) (match-on .keys1)
-          ((interface-dcl .ensures) ▸ unrecorded tt);
-    }
-
-returns-2 : tie.Need-returns-2
-unfolding table round plan-at idl-prediction choose Knows leaves all-recorded none-recorded
-returns-2 c =
-    let take = c .before .before .before .before .before .before .before .take in
-    let take2 = c .before .before .before .before .before .before .take2 in
-    let next-kind = c .before .before .before .before .before .next-kind in
-    let match-on = c .before .before .before .before .match in
-    let node = c .before .before .node in
-    record {
-      of-any = λ hs. (take .ensures .reads _ _ .in-any _ _) ▸ (take2 .ensures .reads _ _ .in-any _ _) ▸
-          chosen (except ((65 ∷ 67 ∷ []) ∷ [])) (next-kind .ensures) (match-on .rest)
-          ((node .ensures .wraps refl _ _ _ tt) ▸ unrecorded tt);
-    }
-
 pub interface-spec : {M : Type 1} → statement M
-interface-spec =
-    tie.close (tie.spec (λ c κs. search needs) (λ c κs. search needs) (λ c κs. search needs)
-    (λ c κs. search needs) (λ c κs. search needs) (λ c. search needs) returns (λ c. search needs) returns-2)
+unfolding computing
+interface-spec = tie.close (tie.spec (λ c κs. search needs) (λ c κs. search needs) (λ c κs. search needs)
+    (λ c κs. search needs) (λ c κs. search needs) (λ c κs. search needs) (λ c κs. search needs) (λ c κs. search needs)
+    (λ c κs. search needs) (λ c κs. search needs) (λ c κs. search needs)
+    (λ c. search needs) (λ c. let body = c .before .before .before .before .before .before .before in
+    let header = body .before .before .before .before .before .before in
+    let arm = header .before .before .before .before .before .before in
+    named (arm .before .before .before .take .ensures) (arm .before .before .take2 .ensures)
+    (chosen (among (kinds-of ("{" ∷ ":" ∷ []))) (arm .before .next-kind .ensures) (arm .match .keys1)
+    ((header .before .before .before .before .bases .ensures .at-any _ .in-any _ _ ▸
+    header .node .ensures .wraps refl _ _ _ tt ▸ between (body .before .before .before .«open» .ensures)
+    (body .before .inner .ensures) (body .interface-body .ensures)
+    (c .before .before .before .before .take3 .ensures) .in-any _ _ ▸
+    c .before .before .node2 .ensures .wraps refl _ _ _ tt) ▸ unrecorded tt)))
+    (λ c. search needs) (λ c. let arm = c .before .before .before .before in
+    named (arm .before .before .before .take .ensures) (arm .before .before .take2 .ensures)
+    (chosen (except (kinds-of ("{" ∷ ":" ∷ []) ∷ [])) (arm .before .next-kind .ensures) (arm .match .rest)
+    (c .before .before .node3 .ensures .wraps refl _ _ _ tt ▸ unrecorded tt))))

@@ -1,38 +1,30 @@
 -- `behind_long` reads by its plan: the kind ahead tells the choice.
 -- What the plan comes to is what was called. Assumes nothing.
-use Rattle.readers_core.proofs.Choosing.{Knows, among, choose, except}
+use Rattle.readers_core.proofs.Computing.{computing}
+use Rattle.kinds.specs.Lists.{only}
+use Rattle.readers_core.proofs.Choosing.{among, except}
 use Rattle.readers_core.proofs.Frames.{chosen}
-use Rattle.readers_core.proofs.Sequence.{_▸_}
-use Rattle.readers_core.proofs.Shapes.{leaves}
-use Rattle.readers_core.specs.Reading.{all-recorded, none-recorded}
-use mathlib.Core.Path.{refl}
+use Rattle.readers_names.proofs.Words.{read-word}
 use borrow.Author.Needs.{needs}
 use mathlib.Core.List.{[], _∷_}
+use mathlib.Core.Path.{refl}
 use Rattle.readers_names.proofs.behind_long.Statement.{statement}
 use Rattle.readers_names.proofs.behind_long.Tie as tie
 
 returns : tie.Need-returns
-unfolding choose Knows leaves all-recorded none-recorded
+unfolding computing
 returns c =
-    let next-kind = c .before .before .before .before .before .before .next-kind in
-    let match-on = c .before .before .before .before .before .match in
-    let take = c .before .before .before .before .take in
-    let node = c .before .before .node in
-    record {
-      at-any =
-          λ d. chosen (among (40 ∷ [])) (next-kind .ensures) (match-on .keys1)
-          ((take .ensures .reads _ _ .in-any _ _) ▸ (node .ensures .wraps refl _ _ _ tt));
+    let word = c .before .before .before .before in record {
+      at-any = λ d. chosen (among (only "long")) (word .before .before .next-kind .ensures) (word .before .match .keys1)
+          (read-word refl tt (word .take .ensures) (c .before .before .node .ensures));
     }
 
 returns-2 : tie.Need-returns-2
-unfolding choose Knows leaves all-recorded none-recorded
+unfolding computing
 returns-2 c =
-    let next-kind = c .before .before .before .before .before .next-kind in
-    let match-on = c .before .before .before .before .match in
-    let node2 = c .before .before .node2 in
-    record {
-      at-any = λ d. chosen (except ((40 ∷ []) ∷ [])) (next-kind .ensures) (match-on .rest)
-          (node2 .ensures .wraps refl _ _ _ tt);
+    let arm = c .before .before .before .before in record {
+      at-any = λ d. chosen (except (only "long" ∷ [])) (arm .before .next-kind .ensures) (arm .match .rest)
+          (c .before .before .node2 .ensures .wraps refl _ _ _ tt);
     }
 
 pub behind-long-spec : {M : Type 1} → statement M

@@ -1,62 +1,50 @@
 -- `behind_unsigned` reads by its plan: the kind ahead tells each choice.
 -- What the plan comes to is what was called. Assumes nothing.
-use Rattle.readers_core.proofs.Choosing.{Knows, among, choose, except}
+use Rattle.readers_core.proofs.Computing.{computing}
+use Rattle.kinds.specs.Lists.{only}
+use Rattle.readers_core.proofs.Choosing.{among, except}
 use Rattle.readers_core.proofs.Frames.{chosen}
 use Rattle.readers_core.proofs.Sequence.{_▸_}
-use Rattle.readers_core.proofs.Shapes.{leaves}
-use Rattle.readers_core.specs.Reading.{all-recorded, none-recorded}
-use mathlib.Core.Path.{refl}
+use Rattle.readers_names.proofs.Words.{read-word}
 use borrow.Author.Needs.{needs}
 use mathlib.Core.List.{[], _∷_}
+use mathlib.Core.Path.{refl}
 use Rattle.readers_names.proofs.behind_unsigned.Statement.{statement}
 use Rattle.readers_names.proofs.behind_unsigned.Tie as tie
 
 returns : tie.Need-returns
-unfolding choose Knows leaves all-recorded none-recorded
+unfolding computing
 returns c =
-    let next-kind = c .before .before .before .before .before .before .next-kind in
-    let if1 = c .before .before .before .before .before .if1 in
-    let take = c .before .before .before .before .take in
-    let node = c .before .before .node in
-    record {
+    let word = c .before .before .before .before in record {
       at-any = λ d. record {
-        of-any = λ hs. chosen (among (51 ∷ [])) (next-kind .ensures) (if1 .taken)
-            ((take .ensures .reads _ _ .in-any _ _) ▸ (node .ensures .wraps refl _ _ _ tt));
+        of-any = λ hs. chosen (among (only "short")) (word .before .before .next-kind .ensures) (word .before .if1 .taken)
+            (read-word refl tt (word .take .ensures) (c .before .before .node .ensures));
       };
     }
 
 returns-2 : tie.Need-returns-2
-unfolding choose Knows leaves all-recorded none-recorded
+unfolding computing
 returns-2 c =
-    let next-kind = c .before .before .before .before .before .before .before .before .before .next-kind in
-    let if1 = c .before .before .before .before .before .before .before .before .if1 in
-    let take2 = c .before .before .before .before .before .before .before .take2 in
-    let next-kind2 = c .before .before .before .before .before .before .next-kind2 in
-    let if2 = c .before .before .before .before .before .if2 in
-    let take3 = c .before .before .before .before .take3 in
-    let node2 = c .before .before .node2 in
-    record {
+    let again = c .before .before .before .before in
+    let long = again .before .before .before in record {
       at-any = λ d. record {
-        of-any = λ hs. chosen (except ((51 ∷ []) ∷ [])) (next-kind .ensures) (tt, (if1 .left))
-            ((take2 .ensures .reads _ _ .in-any _ _) ▸ chosen (among (40 ∷ [])) (next-kind2 .ensures) (if2 .taken)
-            ((take3 .ensures .reads _ _ .in-any _ _) ▸ (node2 .ensures .wraps refl _ _ _ tt)));
+        of-any = λ hs. chosen (except (only "short" ∷ [])) (long .before .before .next-kind .ensures)
+            (tt, long .before .if1 .left) ((long .take2 .ensures .reads _ _ .in-any _ _)
+            ▸ chosen (among (only "long")) (again .before .before .next-kind2 .ensures) (again .before .if2 .taken)
+            (read-word refl tt (again .take3 .ensures) (c .before .before .node2 .ensures)));
       };
     }
 
 returns-3 : tie.Need-returns-3
-unfolding choose Knows leaves all-recorded none-recorded
+unfolding computing
 returns-3 c =
-    let next-kind = c .before .before .before .before .before .before .before .before .next-kind in
-    let if1 = c .before .before .before .before .before .before .before .if1 in
-    let take2 = c .before .before .before .before .before .before .take2 in
-    let next-kind2 = c .before .before .before .before .before .next-kind2 in
-    let if2 = c .before .before .before .before .if2 in
-    let node3 = c .before .before .node3 in
-    record {
+    let test = c .before .before .before .before in
+    let long = test .before .before in record {
       at-any = λ d. record {
-        of-any = λ hs. chosen (except ((51 ∷ []) ∷ [])) (next-kind .ensures) (tt, (if1 .left))
-            ((take2 .ensures .reads _ _ .in-any _ _) ▸ chosen (except ((40 ∷ []) ∷ [])) (next-kind2 .ensures)
-            (tt, (if2 .left)) (node3 .ensures .wraps refl _ _ _ tt));
+        of-any = λ hs. chosen (except (only "short" ∷ [])) (long .before .before .next-kind .ensures)
+            (tt, long .before .if1 .left) ((long .take2 .ensures .reads _ _ .in-any _ _)
+            ▸ chosen (except (only "long" ∷ [])) (test .before .next-kind2 .ensures) (tt, test .if2 .left)
+            (c .before .before .node3 .ensures .wraps refl _ _ _ tt));
       };
     }
 

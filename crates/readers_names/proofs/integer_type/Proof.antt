@@ -1,12 +1,10 @@
 -- `integer_type` reads rule 54, which passes another rule's node on.
 -- The kind ahead tells which. Assumes nothing.
-use Rattle.prediction.specs.Check.{table}
-use Rattle.prediction.specs.Columns.{plan-at, round}
-use Rattle.prediction.specs.IdlPlans.{idl-prediction}
+use Rattle.readers_core.proofs.Computing.{computing}
+use Rattle.kinds.specs.Lists.{only}
+use Rattle.grammar.specs.Names.{rule}
 use Rattle.readers_core.proofs.Frames.{passed-on}
-use Rattle.readers_core.proofs.Choosing.{Knows, among, choose, except}
-use Rattle.readers_core.proofs.Shapes.{leaves}
-use Rattle.readers_core.specs.Reading.{all-recorded, none-recorded}
+use Rattle.readers_core.proofs.Choosing.{among, except}
 use borrow.Author.Needs.{needs}
 use mathlib.Core.List.{[], _∷_}
 use mathlib.Core.Path.{refl}
@@ -14,25 +12,19 @@ use Rattle.readers_names.proofs.integer_type.Statement.{statement}
 use Rattle.readers_names.proofs.integer_type.Tie as tie
 
 returns : tie.Need-returns
-unfolding table round plan-at idl-prediction choose Knows leaves all-recorded none-recorded
+unfolding computing
 returns c =
-    let next-kind = c .before .before .before .before .before .next-kind in
-    let match-on = c .before .before .before .before .match in
-    let unsigned-int = c .before .before .unsigned-int in
-    record {
-      at-any = λ d. passed-on 54 (among (59 ∷ [])) (next-kind .ensures) (match-on .keys1) refl tt
-          ((unsigned-int .ensures .at-any) d);
+    let arm = c .before .before .before .before in record {
+      at-any = λ d. passed-on (rule "integer_type") (among (only "unsigned")) (arm .before .next-kind .ensures)
+          (arm .match .keys1) refl tt (c .before .before .unsigned-int .ensures .at-any d);
     }
 
 returns-2 : tie.Need-returns-2
-unfolding table round plan-at idl-prediction choose Knows leaves all-recorded none-recorded
+unfolding computing
 returns-2 c =
-    let next-kind = c .before .before .before .before .before .next-kind in
-    let match-on = c .before .before .before .before .match in
-    let signed-int = c .before .before .signed-int in
-    record {
-      at-any = λ d. passed-on 54 (except ((59 ∷ []) ∷ [])) (next-kind .ensures) (match-on .rest) refl tt
-          ((signed-int .ensures .at-any) d);
+    let arm = c .before .before .before .before in record {
+      at-any = λ d. passed-on (rule "integer_type") (except (only "unsigned" ∷ [])) (arm .before .next-kind .ensures)
+          (arm .match .rest) refl tt (c .before .before .signed-int .ensures .at-any d);
     }
 
 pub integer-type-spec : {M : Type 1} → statement M

@@ -1,64 +1,41 @@
 -- `further` reads the rest of a list while a comma stands ahead.
--- The part read so far as a continuation; what is left to read falls. Assumes nothing.
-use Rattle.prediction.specs.Plan.{call, seq, token}
-use Rattle.readers_core.specs.Course.{one}
-use Rattle.readers_core.proofs.Choosing.{Knows, among, except, is-over}
-use Rattle.readers_core.proofs.Repetition.{Far, falls, far-here, far-more, far-over, remaining, repeats}
-use Rattle.readers_core.proofs.Sequence.{_▸_}
-use Prim.Native.Nat.{ℕ}
+-- By the laws of such loops: each turn reads a comma and an item. Assumes nothing.
+use Rattle.kinds.specs.Lists.{only}
+use Rattle.readers_core.proofs.Computing.{computing}
+use Rattle.readers_core.proofs.Loops.{no-turn, turn-less, turn-again, turned}
+use Rattle.readers_core.proofs.Parts.{_then_}
+use Rattle.readers_core.proofs.Repetition.{Turning, to-read}
+use Rattle.readers_core.specs.Notation.{behind-comma}
 use borrow.Author.Needs.{needs}
-use lib.ListN.{length}
-use mathlib.Core.List.{[], _∷_}
-use mathlib.Core.Path.{_∙_, _≡_, refl}
 use Rattle.readers_operations.proofs.further.Statement.{statement}
 use Rattle.readers_operations.proofs.further.Tie as tie
 
 abbrev Inv-loop : tie.InvT-loop
-Inv-loop tokens tree₀ s depth rule t₀ tree t =
-    (length tree ≡ length tree₀) ×
-    ((start : ℕ) → Far one tokens depth start (seq (token 68) (call rule)) (s, tree₀) (t, tree))
+Inv-loop tokens tree₀ at depth rule = Turning (behind-comma rule) tokens tree₀ at depth
 
 abbrev μ-loop : tie.MeasureT-loop
-μ-loop tokens tree₀ s depth rule t₀ tree t = remaining tokens t
-
-loop-holds : tie.Need-loop-holds Inv-loop μ-loop
-loop-holds c = (refl, λ start. far-here)
+μ-loop tokens tree₀ at depth rule = to-read tokens tree₀ at depth
 
 loop-less : tie.Need-loop-less Inv-loop μ-loop
-unfolding Knows repeats is-over
+unfolding computing
 loop-less c =
-    let loop = c .before .before .before .before .before .before .before .loop in
-    let next-kind = c .before .before .before .before .before .before .next-kind in
-    let if1 = c .before .before .before .before .before .if1 in
-    let take = c .before .before .before .before .take in
-    let item = c .before .before .item in
-    falls {R = one} {start = (loop .t)} (among (68 ∷ [])) (next-kind .ensures) (if1 .taken) tt
-    (λ hs. (take .ensures .reads _ _ .in-any _ _) ▸ (item .ensures .in-any _ _))
+    let comma = c .before .before .before .before in
+    turn-less (only ",") (comma .before .before .next-kind .ensures) (comma .before .if1 .taken) tt
+    (comma .take .ensures .reads _ _ then c .before .before .item .ensures)
 
 loop-again : tie.Need-loop-again Inv-loop μ-loop
-unfolding Knows repeats is-over
+unfolding computing
 loop-again c =
-    let loop = c .before .before .before .before .before .before .before .loop in
-    let next-kind = c .before .before .before .before .before .before .next-kind in
-    let if1 = c .before .before .before .before .before .if1 in
-    let take = c .before .before .before .before .take in
-    let item = c .before .before .item in (
-      (item .kept .1 .0) ∙ (loop .inv .0),
-      λ start. far-more (among (68 ∷ [])) (next-kind .ensures) (if1 .taken) tt
-          (λ hs. (take .ensures .reads _ _ .in-any _ _) ▸ (item .ensures .in-any _ _)) ((loop .inv .1) start),
-    )
+    let comma = c .before .before .before .before in
+    turn-again (only ",") (comma .before .before .next-kind .ensures) (comma .before .if1 .taken) tt
+    (comma .take .ensures .reads _ _ then c .before .before .item .ensures) (c .before .before .item .kept .1 .0)
+    (comma .before .before .before .loop .inv)
 
 returns : tie.Need-returns Inv-loop μ-loop
-unfolding Knows repeats is-over
-returns c =
-    let loop = c .before .before .loop in
-    let next-kind = c .before .next-kind in
-    record {
-      in-any = λ start hs. far-over (except ((68 ∷ []) ∷ [])) (next-kind .ensures) (tt, (c .if1 .left)) tt
-          ((loop .inv .1) start) hs;
-    }
+unfolding computing
+returns c = turned (only ",") (c .before .next-kind .ensures) (tt, c .if1 .left) tt (c .before .before .loop .inv)
 
 pub further-spec : {M : Type 1} → statement M
 further-spec =
-    tie.close (tie.spec Inv-loop μ-loop loop-holds (λ c κs. search needs) (λ c κs. search needs)
+    tie.close (tie.spec Inv-loop μ-loop (λ c. no-turn) (λ c κs. search needs) (λ c κs. search needs)
     (λ c κs. search needs) loop-less loop-again (λ c. search needs) returns)

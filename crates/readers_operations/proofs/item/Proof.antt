@@ -1,40 +1,45 @@
 -- `item` reads the rule that it is asked for.
--- One of three rules, by its number. Assumes nothing.
-use Rattle.prediction.specs.Check.{table}
-use Rattle.prediction.specs.Columns.{plan-at, round}
-use Rattle.prediction.specs.IdlPlans.{idl-prediction}
+-- One of four rules, by its number. Assumes nothing.
+use Rattle.readers_core.proofs.Computing.{computing}
+use Rattle.grammar.specs.Names.{rule}
+use Rattle.readers_operations.specs.Plans.{Listed}
+use Prim.Native.Nat.{ℕ}
 use borrow.Author.Needs.{needs}
-use mathlib.Core.Logic.{⊎-elim}
+use mathlib.Core.Logic.{inl, inr}
 use mathlib.Core.Path.{_≡_, refl}
 use Rattle.readers_operations.proofs.item.Statement.{statement}
 use Rattle.readers_operations.proofs.item.Tie as tie
 
+-- none of the first three is the last
+last : {r : ℕ} → Listed r → (r ≡ rule "scoped_name" → ⊥) → (r ≡ rule "simple_declarator" → ⊥) → (r ≡ rule "param_dcl" → ⊥) →
+    r ≡ rule "init_param_decl"
+last (inl e) f g h = absurd (f e)
+last (inr (inl e)) f g h = absurd (g e)
+last (inr (inr (inl e))) f g h = absurd (h e)
+last (inr (inr (inr e))) f g h = e
+
 returns : tie.Need-returns
-unfolding table round plan-at idl-prediction
-returns c =
-    let match-on = c .before .before .before .before .match in
-    let scoped-name = c .before .before .scoped-name in
-    rw (match-on .keys1) ((scoped-name .ensures .at-any) _)
+unfolding computing
+returns c = rw (c .before .before .before .before .match .keys1) (c .before .before .scoped-name .ensures .at-any _)
 
 returns-2 : tie.Need-returns-2
-unfolding table round plan-at idl-prediction
+unfolding computing
 returns-2 c =
-    let match-on = c .before .before .before .before .match in
-    let word = c .before .before .word in
-    rw (match-on .keys2) ((word .ensures .reads) refl refl .at-any _)
+    rw (c .before .before .before .before .match .keys2) (c .before .before .one-token .ensures .reads refl refl .at-any _)
 
 returns-3 : tie.Need-returns-3
-unfolding table round plan-at idl-prediction
-returns-3 c =
-    let args = c .before .before .before .before .before .before .before .args in
-    let pre = c .before .before .before .before .before .before .before .pre in
-    let match-on = c .before .before .before .before .match in
-    let param-dcl = c .before .before .param-dcl in
-    let e : (args .rule) ≡ 91 =
-    ⊎-elim (λ h. absurd ((match-on .rest .0 .1) h)) (λ h. ⊎-elim (λ k. absurd ((match-on .rest .1) k)) (λ k. k) h)
-    (pre .1) in rw e (param-dcl .ensures)
+unfolding computing
+returns-3 c = rw (c .before .before .before .before .match .keys3) (c .before .before .param-dcl .ensures)
+
+returns-4 : tie.Need-returns-4
+unfolding computing
+returns-4 c =
+    let rest = c .before .before .before .before .match .rest in
+    rw (last (c .before .before .before .before .before .before .before .pre .1) (rest .0 .0 .1) (rest .0 .1) (rest .1))
+    (c .before .before .init-param-decl .ensures)
 
 pub item-spec : {M : Type 1} → statement M
 item-spec =
-    tie.close (tie.spec (λ c κs. search needs) (λ c κs. search needs) (λ c κs. search needs) (λ c. search needs)
-    returns (λ c. search needs) returns-2 (λ c. search needs) returns-3)
+    tie.close (tie.spec (λ c κs. search needs) (λ c κs. search needs) (λ c κs. search needs) (λ c κs. search needs)
+    (λ c. search needs) returns (λ c. search needs) returns-2 (λ c. search needs) returns-3 (λ c. search needs)
+    returns-4)

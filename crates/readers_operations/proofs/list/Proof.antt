@@ -6,10 +6,10 @@ use Rattle.readers_operations.proofs.list.Statement.{statement}
 use Rattle.readers_operations.proofs.list.Tie as tie
 
 returns : tie.Need-returns
-returns c =
-    let item = c .before .before .before .before .before .before .item in
-    let further = c .before .before .further in
-    record { in-any = λ start hs. (item .ensures .in-any _ _) ▸ (further .ensures .in-any _ _) }
+returns c = record {
+  in-any = λ start hs. c .before .before .before .before .before .before .item .ensures .in-any _ _ ▸
+      c .before .before .further .ensures .in-any _ _;
+}
 
 pub list-spec : {M : Type 1} → statement M
 list-spec = tie.close (tie.spec (λ c κs. search needs) (λ c κs. search needs) (λ c. search needs) returns)

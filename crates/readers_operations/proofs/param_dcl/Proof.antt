@@ -1,30 +1,25 @@
 -- `param_dcl` reads rule 91 in a frame of its own.
 -- Its calls are put together as its plan is. Assumes nothing.
-use Rattle.prediction.specs.Check.{table}
-use Rattle.prediction.specs.Columns.{plan-at, round}
-use Rattle.prediction.specs.IdlPlans.{idl-prediction}
+use Rattle.readers_core.proofs.Computing.{computing}
+use Rattle.grammar.specs.Names.{rule}
 use Rattle.readers_core.proofs.Frames.{frame}
 use Rattle.readers_core.proofs.Sequence.{_▸_}
-use Rattle.readers_core.proofs.Shapes.{leaves}
-use Rattle.readers_core.specs.Reading.{all-recorded, none-recorded}
 use borrow.Author.Needs.{needs}
 use mathlib.Core.Path.{refl}
 use Rattle.readers_operations.proofs.param_dcl.Statement.{statement}
 use Rattle.readers_operations.proofs.param_dcl.Tie as tie
 
 returns : tie.Need-returns
-unfolding table round plan-at idl-prediction leaves all-recorded none-recorded
+unfolding computing
 returns c =
-    let param-attribute =
-    c .before .before .before .before .before .before .before .before .before .before .before .before .before .before .param-attribute in
-    let param-type-spec =
-    c .before .before .before .before .before .before .before .before .before .before .param-type-spec in
-    let word = c .before .before .before .before .before .before .word in
-    let node = c .before .before .node in
-    frame 91 ((param-attribute .ensures .at-any _ .in-any _ _) ▸ (param-type-spec .ensures .in-any _ _) ▸
-    ((word .ensures .reads) refl refl .at-any _ .in-any _ _) ▸ (node .ensures .wraps refl _ _ _ tt))
+    let name = c .before .before .before .before .before .before in
+    let typed = name .before .before .before .before in
+    frame (rule "param_dcl")
+    (typed .before .before .before .before .one-of-three .ensures .reads refl refl .at-any _ .in-any _ _ ▸
+    typed .param-type-spec .ensures .in-any _ _ ▸ name .one-token .ensures .reads refl refl .at-any _ .in-any _ _ ▸
+    c .before .before .node .ensures .wraps refl _ _ _ tt)
 
 pub param-dcl-spec : {M : Type 1} → statement M
 param-dcl-spec =
-    tie.close (tie.spec (λ c κs. search needs) (λ c κs. search needs) (λ c κs. search needs)
-    (λ c κs. search needs) (λ c. search needs) returns)
+    tie.close (tie.spec (λ c κs. search needs) (λ c κs. search needs) (λ c κs. search needs) (λ c κs. search needs)
+    (λ c. search needs) returns)

@@ -1,33 +1,24 @@
 -- `const_dcl` reads rule 27 in a frame of its own.
 -- Its calls are put together as its plan is. Assumes nothing.
-use Rattle.prediction.specs.Check.{table}
-use Rattle.prediction.specs.Columns.{plan-at, round}
-use Rattle.prediction.specs.IdlPlans.{idl-prediction}
+use Rattle.grammar.specs.Names.{rule}
+use Rattle.readers_core.proofs.Computing.{computing}
 use Rattle.readers_core.proofs.Frames.{frame}
 use Rattle.readers_core.proofs.Sequence.{_▸_}
-use Rattle.readers_core.proofs.Shapes.{leaves}
-use Rattle.readers_core.specs.Reading.{all-recorded, none-recorded}
-use mathlib.Core.Path.{refl}
 use borrow.Author.Needs.{needs}
+use mathlib.Core.Path.{refl}
 use Rattle.readers_structs.proofs.const_dcl.Statement.{statement}
 use Rattle.readers_structs.proofs.const_dcl.Tie as tie
 
 returns : tie.Need-returns
-unfolding table round plan-at idl-prediction leaves all-recorded none-recorded
+unfolding computing
 returns c =
-    let take =
-    c .before .before .before .before .before .before .before .before .before .before .before .before .before .before .take in
-    let const-type =
-    c .before .before .before .before .before .before .before .before .before .before .before .before .const-type in
-    let take2 = c .before .before .before .before .before .before .before .before .before .take2 in
-    let take3 = c .before .before .before .before .before .before .before .before .take3 in
-    let const-exp = c .before .before .before .before .before .before .const-exp in
-    let node = c .before .before .node in
-    frame 27 ((take .ensures .reads _ _ .in-any _ _) ▸ (const-type .ensures .in-any _ _) ▸
-    (take2 .ensures .reads _ _ .in-any _ _) ▸ (take3 .ensures .reads _ _ .in-any _ _) ▸
-    (const-exp .ensures .in-any _ _) ▸ (node .ensures .wraps refl _ _ _ tt))
+    let name = c .before .before .before .before .before .before .before .before .before in
+    frame (rule "const_dcl") ((name .before .before .before .before .before .take .ensures .reads _ _ .in-any _ _) ▸
+    (name .before .before .before .const-type .ensures .in-any _ _) ▸ (name .take2 .ensures .reads _ _ .in-any _ _) ▸
+    (c .before .before .before .before .before .before .before .before .take3 .ensures .reads _ _ .in-any _ _) ▸
+    (c .before .before .before .before .before .before .const-exp .ensures .in-any _ _) ▸ (c .before .before .node .ensures .wraps refl _ _ _ tt))
 
 pub const-dcl-spec : {M : Type 1} → statement M
 const-dcl-spec =
-    tie.close (tie.spec (λ c κs. search needs) (λ c κs. search needs) (λ c κs. search needs)
-    (λ c κs. search needs) (λ c κs. search needs) (λ c κs. search needs) (λ c. search needs) returns)
+    tie.close (tie.spec (λ c κs. search needs) (λ c κs. search needs) (λ c κs. search needs) (λ c κs. search needs) (λ c κs. search needs)
+    (λ c κs. search needs) (λ c. search needs) returns)

@@ -1,46 +1,37 @@
 -- `union_dcl` reads by its plan: "switch" tells a declaration.
 -- Its calls are put together as its plan is. Assumes nothing.
-use Rattle.prediction.specs.Check.{table}
-use Rattle.prediction.specs.Columns.{plan-at, round}
-use Rattle.prediction.specs.IdlPlans.{idl-prediction}
-use Rattle.readers_core.proofs.Choosing.{Knows, among, choose, except}
+use Rattle.kinds.specs.Lists.{only}
+use Rattle.readers_core.proofs.Choosing.{among, except}
+use Rattle.readers_core.proofs.Computing.{computing}
 use Rattle.readers_core.proofs.Frames.{chosen}
 use Rattle.readers_core.proofs.Sequence.{_▸_}
-use Rattle.readers_core.proofs.Shapes.{leaves}
-use Rattle.readers_core.specs.Reading.{all-recorded, none-recorded}
-use mathlib.Core.Path.{refl}
 use borrow.Author.Needs.{needs}
 use mathlib.Core.List.{[], _∷_}
+use mathlib.Core.Path.{refl}
 use Rattle.readers_structs.proofs.union_dcl.Statement.{statement}
 use Rattle.readers_structs.proofs.union_dcl.Tie as tie
 
 returns : tie.Need-returns
-unfolding table round plan-at idl-prediction choose Knows leaves all-recorded none-recorded
+unfolding computing
 returns c =
-    let take = c .before .before .before .before .before .before .before .take in
-    let take2 = c .before .before .before .before .before .before .take2 in
-    let next-kind = c .before .before .before .before .before .next-kind in
-    let if1 = c .before .before .before .before .if1 in
-    let union-rest = c .before .before .union-rest in
+    let test = c .before .before .before .before in
     record {
-      of-any = λ hs. (take .ensures .reads _ _ .in-any _ _) ▸ (take2 .ensures .reads _ _ .in-any _ _) ▸
-          chosen (among (55 ∷ [])) (next-kind .ensures) (if1 .taken) (union-rest .ensures .of-any _);
+      of-any = λ hs. (test .before .before .before .take .ensures .reads _ _ .in-any _ _) ▸
+          (test .before .before .take2 .ensures .reads _ _ .in-any _ _) ▸
+          chosen (among (only "switch")) (test .before .next-kind .ensures) (test .if1 .taken) (c .before .before .union-rest .ensures .of-any _);
     }
 
 returns-2 : tie.Need-returns-2
-unfolding table round plan-at idl-prediction choose Knows leaves all-recorded none-recorded
+unfolding computing
 returns-2 c =
-    let take = c .before .before .before .before .before .before .before .take in
-    let take2 = c .before .before .before .before .before .before .take2 in
-    let next-kind = c .before .before .before .before .before .next-kind in
-    let if1 = c .before .before .before .before .if1 in
-    let node = c .before .before .node in
+    let test = c .before .before .before .before in
     record {
-      of-any = λ hs. (take .ensures .reads _ _ .in-any _ _) ▸ (take2 .ensures .reads _ _ .in-any _ _) ▸
-          chosen (except ((55 ∷ []) ∷ [])) (next-kind .ensures) (tt, (if1 .left)) (node .ensures .wraps refl _ _ _ tt);
+      of-any = λ hs. (test .before .before .before .take .ensures .reads _ _ .in-any _ _) ▸
+          (test .before .before .take2 .ensures .reads _ _ .in-any _ _) ▸
+          chosen (except (only "switch" ∷ [])) (test .before .next-kind .ensures) (tt, test .if1 .left) (c .before .before .node .ensures .wraps refl _ _ _ tt);
     }
 
 pub union-dcl-spec : {M : Type 1} → statement M
 union-dcl-spec =
-    tie.close (tie.spec (λ c κs. search needs) (λ c κs. search needs) (λ c κs. search needs)
-    (λ c κs. search needs) (λ c. search needs) returns (λ c κs. search needs) (λ c. search needs) returns-2)
+    tie.close (tie.spec (λ c κs. search needs) (λ c κs. search needs) (λ c κs. search needs) (λ c κs. search needs)
+    (λ c. search needs) returns (λ c κs. search needs) (λ c. search needs) returns-2)

@@ -1,105 +1,57 @@
 -- `const_type` reads rule 28: a number type in a frame of its own, or another rule, whose node is passed on.
 -- The kind ahead tells which. Assumes nothing.
-use Rattle.prediction.specs.Check.{table}
-use Rattle.prediction.specs.Columns.{plan-at, round}
-use Rattle.prediction.specs.IdlPlans.{idl-prediction}
-use Rattle.readers_core.proofs.Frames.{frame-on, passed-on}
-use Rattle.readers_core.proofs.Choosing.{Knows, among, choose, except}
+use Rattle.readers_core.proofs.Computing.{computing}
+use Rattle.kinds.specs.Lists.{kinds-of}
+use Rattle.grammar.specs.Names.{rule}
+use Rattle.readers_core.proofs.Frames.{frame-on, passed-by, passed-on}
+use Rattle.readers_core.proofs.Choosing.{among, except}
 use Rattle.readers_core.proofs.Sequence.{_▸_, unrecorded}
-use Rattle.readers_core.proofs.Shapes.{leaves}
-use Rattle.readers_core.specs.Reading.{all-recorded, none-recorded}
+use Rattle.readers_names.proofs.Words.{by-word, is-kind, numbers, passes-word}
+use Rattle.readers_types.specs.Plans.{string-rule, strings}
+use Prim.Native.Nat.{ℕ}
 use borrow.Author.Needs.{needs}
-use mathlib.Core.List.{[], _∷_}
+use mathlib.Core.List.{List, [], _∷_}
 use mathlib.Core.Path.{refl}
 use Rattle.readers_types.proofs.const_type.Statement.{statement}
 use Rattle.readers_types.proofs.const_type.Tie as tie
 
+abbrev words : List ℕ
+words = kinds-of ("boolean" ∷ "char" ∷ "fixed" ∷ "octet" ∷ "wchar" ∷ [])
+
 returns : tie.Need-returns
-unfolding table round plan-at idl-prediction choose Knows leaves all-recorded none-recorded
+unfolding computing
 returns c =
-    let next-kind = c .before .before .before .before .before .next-kind in
-    let match-on = c .before .before .before .before .match in
-    let number-type = c .before .before .number-type in
-    frame-on 28 (among (30 ∷ 35 ∷ 40 ∷ 51 ∷ 59 ∷ [])) (next-kind .ensures) (match-on .keys1)
-    ((number-type .ensures .at-any _) ▸ unrecorded tt)
+    let arm = c .before .before .before .before in
+    frame-on (rule "const_type") (among numbers) (arm .before .next-kind .ensures) (arm .match .keys1)
+    ((c .before .before .number-type .ensures .at-any _) ▸ unrecorded tt)
+
+one-token-requires : tie.Need-one-token-requires
+unfolding computing
+one-token-requires c κs = (search needs, is-kind words _ (c .before .before .match .keys2) tt)
 
 returns-2 : tie.Need-returns-2
-unfolding table round plan-at idl-prediction choose Knows leaves all-recorded none-recorded
+unfolding passes-word
 returns-2 c =
-    let next-kind = c .before .before .before .before .before .next-kind in
-    let match-on = c .before .before .before .before .match in
-    let word = c .before .before .word in
-    passed-on 28 (among (25 ∷ [])) (next-kind .ensures) (match-on .keys2) refl tt
-    ((word .ensures .reads) refl refl .at-any _)
+    let read = c .before .before in let arm = read .before .before .before in
+    by-word (rule "const_type") words (arm .before .next-kind .ensures) (arm .match .keys2)
+    (read .before .word-rule .ensures) tt (read .one-token .ensures)
 
 returns-3 : tie.Need-returns-3
-unfolding table round plan-at idl-prediction choose Knows leaves all-recorded none-recorded
+unfolding passes-word
 returns-3 c =
-    let next-kind = c .before .before .before .before .before .next-kind in
-    let match-on = c .before .before .before .before .match in
-    let word2 = c .before .before .word2 in
-    passed-on 28 (among (62 ∷ [])) (next-kind .ensures) (match-on .keys3) refl tt
-    ((word2 .ensures .reads) refl refl .at-any _)
+    let arm = c .before .before .before .before in
+    passed-by (rule "const_type") string-rule strings (arm .before .next-kind .ensures) (arm .match .keys3) tt
+    (c .before .before .string-type .ensures)
 
 returns-4 : tie.Need-returns-4
-unfolding table round plan-at idl-prediction choose Knows leaves all-recorded none-recorded
+unfolding computing
 returns-4 c =
-    let next-kind = c .before .before .before .before .before .next-kind in
-    let match-on = c .before .before .before .before .match in
-    let word3 = c .before .before .word3 in
-    passed-on 28 (among (23 ∷ [])) (next-kind .ensures) (match-on .keys4) refl tt
-    ((word3 .ensures .reads) refl refl .at-any _)
-
-returns-5 : tie.Need-returns-5
-unfolding table round plan-at idl-prediction choose Knows leaves all-recorded none-recorded
-returns-5 c =
-    let next-kind = c .before .before .before .before .before .next-kind in
-    let match-on = c .before .before .before .before .match in
-    let string-type = c .before .before .string-type in
-    passed-on 28 (among (52 ∷ [])) (next-kind .ensures) (match-on .keys5) refl tt ((string-type .ensures .reads) refl)
-
-returns-6 : tie.Need-returns-6
-unfolding table round plan-at idl-prediction choose Knows leaves all-recorded none-recorded
-returns-6 c =
-    let next-kind = c .before .before .before .before .before .next-kind in
-    let match-on = c .before .before .before .before .match in
-    let string-type2 = c .before .before .string-type2 in
-    passed-on 28 (among (63 ∷ [])) (next-kind .ensures) (match-on .keys6) refl tt ((string-type2 .ensures .reads) refl)
-
-returns-7 : tie.Need-returns-7
-unfolding table round plan-at idl-prediction choose Knows leaves all-recorded none-recorded
-returns-7 c =
-    let next-kind = c .before .before .before .before .before .next-kind in
-    let match-on = c .before .before .before .before .match in
-    let word4 = c .before .before .word4 in
-    passed-on 28 (among (34 ∷ [])) (next-kind .ensures) (match-on .keys7) refl tt
-    ((word4 .ensures .reads) refl refl .at-any _)
-
-returns-8 : tie.Need-returns-8
-unfolding table round plan-at idl-prediction choose Knows leaves all-recorded none-recorded
-returns-8 c =
-    let next-kind = c .before .before .before .before .before .next-kind in
-    let match-on = c .before .before .before .before .match in
-    let word5 = c .before .before .word5 in
-    passed-on 28 (among (43 ∷ [])) (next-kind .ensures) (match-on .keys8) refl tt
-    ((word5 .ensures .reads) refl refl .at-any _)
-
-returns-9 : tie.Need-returns-9
-unfolding table round plan-at idl-prediction choose Knows leaves all-recorded none-recorded
-returns-9 c =
-    let next-kind = c .before .before .before .before .before .next-kind in
-    let match-on = c .before .before .before .before .match in
-    let scoped-name = c .before .before .scoped-name in
-    passed-on 28 (except
-    ((43 ∷ []) ∷ (34 ∷ []) ∷ (63 ∷ []) ∷ (52 ∷ []) ∷ (23 ∷ []) ∷ (62 ∷ []) ∷ (25 ∷ []) ∷
-    (30 ∷ 35 ∷ 40 ∷ 51 ∷ 59 ∷ []) ∷ [])) (next-kind .ensures) (match-on .rest) refl tt
-    ((scoped-name .ensures .at-any) _)
+    let arm = c .before .before .before .before in
+    passed-on (rule "const_type") (except (strings ∷ words ∷ numbers ∷ [])) (arm .before .next-kind .ensures)
+    (arm .match .rest) refl tt (c .before .before .scoped-name .ensures .at-any _)
 
 pub const-type-spec : {M : Type 1} → statement M
 const-type-spec =
-    tie.close (tie.spec (λ c κs. search needs) (λ c κs. search needs) (λ c κs. search needs)
-    (λ c κs. search needs) (λ c κs. search needs) (λ c κs. search needs) (λ c κs. search needs)
-    (λ c κs. search needs) (λ c κs. search needs) (λ c κs. search needs) (λ c. search needs) returns
-    (λ c. search needs) returns-2 (λ c. search needs) returns-3 (λ c. search needs) returns-4
-    (λ c. search needs) returns-5 (λ c. search needs) returns-6 (λ c. search needs) returns-7
-    (λ c. search needs) returns-8 (λ c. search needs) returns-9)
+    tie.close (tie.spec (λ c κs. search needs) (λ c κs. search needs) (λ c κs. search needs) one-token-requires
+    (λ c κs. (search needs, c .before .match .keys3)) (λ c κs. search needs) (λ c. search needs) returns
+    (λ c. search needs) returns-2 (λ c. search needs) returns-3 (λ c. search needs) returns-4)

@@ -1,26 +1,21 @@
 -- `enum_type` reads rule 78 in a frame of its own.
 -- Its calls are put together as its plan is. Assumes nothing.
-use Rattle.prediction.specs.Check.{table}
-use Rattle.prediction.specs.Columns.{plan-at, round}
-use Rattle.prediction.specs.IdlPlans.{idl-prediction}
+use Rattle.readers_core.proofs.Computing.{computing}
+use Rattle.grammar.specs.Names.{rule}
 use Rattle.readers_core.proofs.Frames.{frame}
 use Rattle.readers_core.proofs.Sequence.{_▸_}
-use Rattle.readers_core.proofs.Shapes.{leaves}
-use Rattle.readers_core.specs.Reading.{all-recorded, none-recorded}
-use mathlib.Core.Path.{refl}
 use borrow.Author.Needs.{needs}
+use mathlib.Core.Path.{refl}
 use Rattle.readers_types.proofs.enum_type.Statement.{statement}
 use Rattle.readers_types.proofs.enum_type.Tie as tie
 
 returns : tie.Need-returns
-unfolding table round plan-at idl-prediction leaves all-recorded none-recorded
+unfolding computing
 returns c =
-    let take = c .before .before .before .before .before .before .before .before .before .take in
-    let take2 = c .before .before .before .before .before .before .before .before .take2 in
-    let enumerators = c .before .before .before .before .before .before .enumerators in
-    let node = c .before .before .node in
-    frame 78 ((take .ensures .reads _ _ .in-any _ _) ▸ (take2 .ensures .reads _ _ .in-any _ _) ▸
-    (enumerators .ensures .in-any _ _) ▸ (node .ensures .wraps refl _ _ _ tt))
+    let body = c .before .before .before .before .before .before in let name = body .before .before in
+    frame (rule "enum_type") ((name .before .take .ensures .reads _ _ .in-any _ _)
+    ▸ (name .take2 .ensures .reads _ _ .in-any _ _)
+    ▸ (body .enumerators .ensures .in-any _ _) ▸ (c .before .before .node .ensures .wraps refl _ _ _ tt))
 
 pub enum-type-spec : {M : Type 1} → statement M
 enum-type-spec =

@@ -1,23 +1,21 @@
 -- `fixed_array_size` reads rule 84 in a frame of its own.
 -- Its calls are put together as its plan is. Assumes nothing.
-use Rattle.prediction.specs.Check.{table}
-use Rattle.prediction.specs.Columns.{plan-at, round}
-use Rattle.prediction.specs.IdlPlans.{idl-prediction}
+use Rattle.readers_core.proofs.Computing.{computing}
+use Rattle.grammar.specs.Names.{rule}
 use Rattle.readers_core.proofs.Frames.{frame}
 use Rattle.readers_core.proofs.Sequence.{_▸_}
-use Rattle.readers_core.proofs.Shapes.{leaves}
-use Rattle.readers_core.specs.Reading.{all-recorded, none-recorded}
-use mathlib.Core.Path.{refl}
 use borrow.Author.Needs.{needs}
+use mathlib.Core.Path.{refl}
 use Rattle.readers_types.proofs.fixed_array_size.Statement.{statement}
 use Rattle.readers_types.proofs.fixed_array_size.Tie as tie
 
 returns : tie.Need-returns
-unfolding table round plan-at idl-prediction leaves all-recorded none-recorded
+unfolding computing
 returns c =
-    let enclosed = c .before .before .before .before .before .before .enclosed in
-    let node = c .before .before .node in
-    frame 84 ((enclosed .ensures .in-any _ _) ▸ (node .ensures .wraps refl _ _ _ tt))
+    let made = c .before .before in
+    frame (rule "fixed_array_size") ((made .before .before .before .before .enclosed .ensures .in-any _ _)
+    ▸ (made .node .ensures .wraps refl _ _ _ tt))
 
 pub fixed-array-size-spec : {M : Type 1} → statement M
-fixed-array-size-spec = tie.close (tie.spec (λ c κs. search needs) (λ c κs. search needs) (λ c. search needs) returns)
+fixed-array-size-spec =
+    tie.close (tie.spec (λ c κs. search needs) (λ c κs. search needs) (λ c. search needs) returns)

@@ -1,27 +1,22 @@
 -- `fixed_pt_type` reads rule 96 in a frame of its own.
 -- Its calls are put together as its plan is. Assumes nothing.
-use Rattle.prediction.specs.Check.{table}
-use Rattle.prediction.specs.Columns.{plan-at, round}
-use Rattle.prediction.specs.IdlPlans.{idl-prediction}
+use Rattle.readers_core.proofs.Computing.{computing}
+use Rattle.grammar.specs.Names.{rule}
 use Rattle.readers_core.proofs.Frames.{frame}
 use Rattle.readers_core.proofs.Sequence.{_▸_}
-use Rattle.readers_core.proofs.Shapes.{leaves}
-use Rattle.readers_core.specs.Reading.{all-recorded, none-recorded}
-use mathlib.Core.Path.{refl}
 use borrow.Author.Needs.{needs}
+use mathlib.Core.Path.{refl}
 use Rattle.readers_types.proofs.fixed_pt_type.Statement.{statement}
 use Rattle.readers_types.proofs.fixed_pt_type.Tie as tie
 
 returns : tie.Need-returns
-unfolding table round plan-at idl-prediction leaves all-recorded none-recorded
+unfolding computing
 returns c =
-    let take = c .before .before .before .before .before .before .before .before .take in
-    let fixed-bounds = c .before .before .before .before .before .before .fixed-bounds in
-    let node = c .before .before .node in
-    frame 96 ((take .ensures .reads _ _ .in-any _ _) ▸ (fixed-bounds .ensures .in-any _ _) ▸
-    (node .ensures .wraps refl _ _ _ tt))
+    let bounds = c .before .before .before .before .before .before in
+    frame (rule "fixed_pt_type") ((bounds .before .before .take .ensures .reads _ _ .in-any _ _)
+    ▸ (bounds .fixed-bounds .ensures .in-any _ _)
+    ▸ (c .before .before .node .ensures .wraps refl _ _ _ tt))
 
 pub fixed-pt-type-spec : {M : Type 1} → statement M
 fixed-pt-type-spec =
-    tie.close (tie.spec (λ c κs. search needs) (λ c κs. search needs) (λ c κs. search needs) (λ c. search needs)
-    returns)
+    tie.close (tie.spec (λ c κs. search needs) (λ c κs. search needs) (λ c κs. search needs) (λ c. search needs) returns)

@@ -1,63 +1,22 @@
 -- `further_sizes` reads sizes while an opening bracket stands ahead.
--- The part read so far as a continuation; what is left to read falls. Assumes nothing.
-use Rattle.prediction.specs.Check.{table}
-use Rattle.prediction.specs.Columns.{plan-at, round}
-use Rattle.prediction.specs.IdlPlans.{idl-prediction}
-use Rattle.prediction.specs.Plan.{call}
-use Rattle.readers_core.specs.Course.{one}
-use Rattle.readers_core.proofs.Choosing.{Knows, among, except, is-over}
-use Rattle.readers_core.proofs.Repetition.{Far, falls, far-here, far-more, far-over, remaining, repeats}
-use Prim.Native.Nat.{ℕ}
+-- By the laws of such loops. Assumes nothing.
+use Rattle.kinds.specs.Lists.{only}
+use Rattle.readers_core.specs.Notation.{<_>}
+use Rattle.readers_core.proofs.Computing.{computing}
+use Rattle.readers_core.proofs.Loops.{no-turn, turn-less, turn-again, turned}
+use Rattle.readers_core.proofs.Repetition.{Turning, to-read}
 use borrow.Author.Needs.{needs}
-use lib.ListN.{length}
-use mathlib.Core.List.{[], _∷_}
-use mathlib.Core.Path.{_∙_, _≡_, refl}
 use Rattle.readers_types.proofs.further_sizes.Statement.{statement}
 use Rattle.readers_types.proofs.further_sizes.Tie as tie
 
-abbrev Inv-loop : tie.InvT-loop
-Inv-loop tokens tree₀ s depth t₀ tree t =
-    (length tree ≡ length tree₀) × ((start : ℕ) → Far one tokens depth start (call 84) (s, tree₀) (t, tree))
-
-abbrev μ-loop : tie.MeasureT-loop
-μ-loop tokens tree₀ s depth t₀ tree t = remaining tokens t
-
-loop-holds : tie.Need-loop-holds Inv-loop μ-loop
-loop-holds c = (refl, λ start. far-here)
-
-loop-less : tie.Need-loop-less Inv-loop μ-loop
-unfolding table round plan-at idl-prediction Knows repeats is-over
-loop-less c =
-    let loop = c .before .before .before .before .before .before .loop in
-    let next-kind = c .before .before .before .before .before .next-kind in
-    let if1 = c .before .before .before .before .if1 in
-    let fixed-array-size = c .before .before .fixed-array-size in
-    falls {R = one} {start = (loop .t)} (among (75 ∷ [])) (next-kind .ensures) (if1 .taken) tt
-    (λ hs. fixed-array-size .ensures .in-any _ _)
-
-loop-again : tie.Need-loop-again Inv-loop μ-loop
-unfolding table round plan-at idl-prediction Knows repeats is-over
-loop-again c =
-    let loop = c .before .before .before .before .before .before .loop in
-    let next-kind = c .before .before .before .before .before .next-kind in
-    let if1 = c .before .before .before .before .if1 in
-    let fixed-array-size = c .before .before .fixed-array-size in (
-      (fixed-array-size .kept .1 .0) ∙ (loop .inv .0),
-      λ start. far-more (among (75 ∷ [])) (next-kind .ensures)
-          (if1 .taken) tt (λ hs. fixed-array-size .ensures .in-any _ _) ((loop .inv .1) start),
-    )
-
-returns : tie.Need-returns Inv-loop μ-loop
-unfolding table round plan-at idl-prediction Knows repeats is-over
-returns c =
-    let loop = c .before .before .loop in
-    let next-kind = c .before .next-kind in
-    record {
-      in-any = λ start hs. far-over (except ((75 ∷ []) ∷ [])) (next-kind .ensures) (tt, (c .if1 .left)) tt
-          ((loop .inv .1) start) hs;
-    }
-
 pub further-sizes-spec : {M : Type 1} → statement M
+unfolding computing
 further-sizes-spec =
-    tie.close (tie.spec Inv-loop μ-loop loop-holds (λ c κs. search needs) (λ c κs. search needs) loop-less
-    loop-again (λ c. search needs) returns)
+    tie.close (tie.spec (Turning < "fixed_array_size" >) to-read (λ c. no-turn) (λ c κs. search needs) (λ c κs. search needs)
+    (λ c. let turn = c .before .before .before .before in
+    turn-less (only "[") (turn .before .next-kind .ensures) (turn .if1 .taken) tt (c .before .before .fixed-array-size .ensures))
+    (λ c. let turn = c .before .before .before .before in
+    turn-again (only "[") (turn .before .next-kind .ensures) (turn .if1 .taken) tt (c .before .before .fixed-array-size .ensures)
+    (c .before .before .fixed-array-size .kept .1 .0) (turn .before .before .loop .inv))
+    (λ c. search needs)
+    (λ c. turned (only "[") (c .before .next-kind .ensures) (tt, c .if1 .left) tt (c .before .before .loop .inv)))

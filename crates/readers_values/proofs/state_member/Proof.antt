@@ -1,31 +1,21 @@
 -- `state_member` reads rule 22 in a frame of its own.
 -- Its calls are put together as its plan is. Assumes nothing.
-use Rattle.prediction.specs.Check.{table}
-use Rattle.prediction.specs.Columns.{plan-at, round}
-use Rattle.prediction.specs.IdlPlans.{idl-prediction}
+use Rattle.readers_core.proofs.Computing.{computing}
+use Rattle.grammar.specs.Names.{rule}
 use Rattle.readers_core.proofs.Frames.{frame}
 use Rattle.readers_core.proofs.Sequence.{_▸_}
-use Rattle.readers_core.proofs.Shapes.{leaves}
-use Rattle.readers_core.specs.Reading.{all-recorded, none-recorded}
 use mathlib.Core.Path.{refl}
 use borrow.Author.Needs.{needs}
 use Rattle.readers_values.proofs.state_member.Statement.{statement}
 use Rattle.readers_values.proofs.state_member.Tie as tie
 
-returns : tie.Need-returns
-unfolding table round plan-at idl-prediction leaves all-recorded none-recorded
-returns c =
-    let visibility =
-    c .before .before .before .before .before .before .before .before .before .before .before .before .before .visibility in
-    let type-spec =
-    c .before .before .before .before .before .before .before .before .before .before .before .type-spec in
-    let declarators = c .before .before .before .before .before .before .before .declarators in
-    let take = c .before .before .before .before .take in
-    let node = c .before .before .node in
-    frame 22 ((visibility .ensures .reads _ _ .in-any _ _) ▸ (type-spec .ensures .in-any _ _) ▸
-    (declarators .ensures .in-any _ _) ▸ (take .ensures .reads _ _ .in-any _ _) ▸ (node .ensures .wraps refl _ _ _ tt))
-
 pub state-member-spec : {M : Type 1} → statement M
-state-member-spec =
-    tie.close (tie.spec (λ c κs. search needs) (λ c κs. search needs) (λ c κs. search needs)
-    (λ c κs. search needs) (λ c κs. search needs) (λ c. search needs) returns)
+unfolding computing
+state-member-spec = tie.close (tie.spec (λ c κs. search needs) (λ c κs. search needs) (λ c κs. search needs)
+    (λ c κs. search needs) (λ c κs. search needs)
+    (λ c. search needs) (λ c. let mark = c .before .before .before .before in
+    let names = mark .before .before .before in
+    let spec = names .before .before .before .before in
+    frame (rule "state_member") (spec .before .before .visibility .ensures .reads _ _ .in-any _ _ ▸
+    spec .type-spec .ensures .in-any _ _ ▸ names .declarators .ensures .in-any _ _ ▸
+    mark .take .ensures .reads _ _ .in-any _ _ ▸ c .before .before .node .ensures .wraps refl _ _ _ tt)))

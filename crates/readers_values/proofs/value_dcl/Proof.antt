@@ -1,25 +1,21 @@
 -- `value_dcl` reads what stands behind the name of a value with a body: its header and the whole become nodes.
 -- Its calls are put together as its plan is. Assumes nothing.
+use Rattle.readers_core.proofs.Computing.{computing}
+use Rattle.readers_core.proofs.Groups.{between}
 use Rattle.readers_core.proofs.Sequence.{_▸_}
-use Rattle.readers_core.proofs.Shapes.{leaves}
-use Rattle.readers_core.specs.Reading.{all-recorded, none-recorded}
 use mathlib.Core.Path.{refl}
 use borrow.Author.Needs.{needs}
 use Rattle.readers_values.proofs.value_dcl.Statement.{statement}
 use Rattle.readers_values.proofs.value_dcl.Tie as tie
 
-returns : tie.Need-returns
-unfolding leaves all-recorded none-recorded
-returns c =
-    let bases =
-    c .before .before .before .before .before .before .before .before .before .before .before .before .before .before .bases in
-    let node = c .before .before .before .before .before .before .before .before .before .before .node in
-    let braced-elements = c .before .before .before .before .before .before .braced-elements in
-    let node2 = c .before .before .node2 in
-    (bases .ensures .at-any _ .in-any _ _) ▸ (node .ensures .wraps refl _ _ _ tt) ▸ (braced-elements .ensures .in-any _ _) ▸
-    (node2 .ensures .wraps refl _ _ _ tt)
-
 pub value-dcl-spec : {M : Type 1} → statement M
-value-dcl-spec =
-    tie.close (tie.spec (λ c κs. search needs) (λ c κs. search needs) (λ c κs. search needs)
-    (λ c κs. search needs) (λ c. search needs) returns)
+unfolding computing
+value-dcl-spec = tie.close (tie.spec (λ c κs. search needs) (λ c κs. search needs) (λ c κs. search needs)
+    (λ c κs. search needs) (λ c κs. search needs) (λ c κs. search needs) (λ c κs. search needs)
+    (λ c. search needs) (λ c. let body = c .before .before .before .before .before .before .before in
+    let header = body .before .before .before .before .before .before in
+    header .before .before .before .before .bases .ensures .at-any _ .in-any _ _ ▸
+    header .node .ensures .wraps refl _ _ _ tt ▸ between (body .before .before .before .«open» .ensures)
+    (body .before .inner .ensures) (body .elements .ensures)
+    (c .before .before .before .before .take .ensures) .in-any _ _ ▸
+    c .before .before .node2 .ensures .wraps refl _ _ _ tt))

@@ -1,46 +1,28 @@
 -- `value_inheritance_spec` reads rule 19 in a frame of its own: ":" tells that values are inherited from.
 -- Its calls are put together as its plan is. Assumes nothing.
-use Rattle.prediction.specs.Check.{table}
-use Rattle.prediction.specs.Columns.{plan-at, round}
-use Rattle.prediction.specs.IdlPlans.{idl-prediction}
-use Rattle.readers_core.proofs.Choosing.{Knows, among, choose, except}
-use Rattle.readers_core.proofs.Frames.{chosen, frame}
+use Rattle.readers_core.proofs.Computing.{computing}
+use Rattle.kinds.specs.Lists.{only}
+use Rattle.grammar.specs.Names.{rule}
+use Rattle.readers_core.proofs.Choosing.{among, except}
+use Rattle.readers_core.proofs.Frames.{frame-on}
 use Rattle.readers_core.proofs.Sequence.{_▸_}
-use Rattle.readers_core.proofs.Shapes.{leaves}
-use Rattle.readers_core.specs.Reading.{all-recorded, none-recorded}
 use mathlib.Core.Path.{refl}
 use borrow.Author.Needs.{needs}
 use mathlib.Core.List.{[], _∷_}
 use Rattle.readers_values.proofs.value_inheritance_spec.Statement.{statement}
 use Rattle.readers_values.proofs.value_inheritance_spec.Tie as tie
 
-returns : tie.Need-returns
-unfolding table round plan-at idl-prediction choose Knows leaves all-recorded none-recorded
-returns c =
-    let next-kind = c .before .before .before .before .before .before .before .before .before .next-kind in
-    let match-on = c .before .before .before .before .before .before .before .before .match in
-    let inherits = c .before .before .before .before .before .before .inherits in
-    let node = c .before .before .node in
-    record {
-      at-any =
-          λ d. frame 19 (chosen (among (67 ∷ [])) (next-kind .ensures) (match-on .keys1)
-          ((inherits .ensures .at-any _ .in-any _ _) ▸ (node .ensures .wraps refl _ _ _ tt)));
-    }
-
-returns-2 : tie.Need-returns-2
-unfolding table round plan-at idl-prediction choose Knows leaves all-recorded none-recorded
-returns-2 c =
-    let next-kind = c .before .before .before .before .before .before .before .before .before .next-kind in
-    let match-on = c .before .before .before .before .before .before .before .before .match in
-    let supports = c .before .before .before .before .before .before .supports in
-    let node2 = c .before .before .node2 in
-    record {
-      at-any =
-          λ d. frame 19 (chosen (except ((67 ∷ []) ∷ [])) (next-kind .ensures) (match-on .rest)
-          ((supports .ensures .at-any _ .in-any _ _) ▸ (node2 .ensures .wraps refl _ _ _ tt)));
-    }
-
 pub value-inheritance-spec-spec : {M : Type 1} → statement M
-value-inheritance-spec-spec =
-    tie.close (tie.spec (λ c κs. search needs) (λ c κs. search needs) (λ c κs. search needs)
-    (λ c κs. search needs) (λ c κs. search needs) (λ c. search needs) returns (λ c. search needs) returns-2)
+unfolding computing
+value-inheritance-spec-spec = tie.close (tie.spec (λ c κs. search needs) (λ c κs. search needs) (λ c κs. search needs)
+    (λ c κs. search needs) (λ c κs. search needs)
+    (λ c. search needs) (λ c. let part = c .before .before .before .before .before .before in record {
+      at-any = λ d. frame-on (rule "value_inheritance_spec") (among (only ":"))
+          (part .before .before .before .next-kind .ensures) (part .before .before .match .keys1)
+          (part .inherits .ensures .at-any d .in-any _ _ ▸ c .before .before .node .ensures .wraps refl _ _ _ tt);
+    })
+    (λ c. search needs) (λ c. let part = c .before .before .before .before .before .before in record {
+      at-any = λ d. frame-on (rule "value_inheritance_spec") (except (only ":" ∷ []))
+          (part .before .before .before .next-kind .ensures) (part .before .before .match .rest)
+          (part .supports .ensures .at-any d .in-any _ _ ▸ c .before .before .node2 .ensures .wraps refl _ _ _ tt);
+    }))

@@ -11,7 +11,7 @@ use Rattle.report.proofs.put_acceptance.Statement.{statement}
 use Rattle.report.proofs.put_acceptance.Tie as tie
 
 returns : tie.Need-returns
-unfolding bytes acceptance
+unfolding acceptance
 returns c =
     let fourth = c .before .before in
     let third = fourth .before .before .before .before in
@@ -28,12 +28,5 @@ returns c =
 
 pub put-acceptance-spec : {M : Type 1} → statement M
 put-acceptance-spec =
-    tie.close
-    (tie.spec
-    (λ c. search needs)
-    (λ c κs. search needs)
-    (λ c κs. search needs)
-    (λ c κs. search needs)
-    (λ c κs. search needs)
-    (λ c. search needs)
-    returns)
+    tie.close (tie.spec (λ c. search needs) (λ c κs. search needs) (λ c κs. search needs) (λ c κs. search needs)
+    (λ c κs. search needs) (λ c. search needs) returns)

@@ -16,10 +16,10 @@ returns c =
     let args = first .before .before .before .args in (
       line-of-four
           (take (args .at) (args .out .now))
-          (args .a)
-          (args .b)
-          (args .c)
-          (args .d)
+          (args .first)
+          (args .second)
+          (args .third)
+          (args .fourth)
           (first .put-number .ensures .0)
           (second .put-number2 .ensures .0)
           (third .put-number3 .ensures .0)
@@ -29,11 +29,5 @@ returns c =
 
 pub put-line-spec : {M : Type 1} → statement M
 put-line-spec =
-    tie.close
-    (tie.spec
-    (λ c κs. search needs)
-    (λ c κs. search needs)
-    (λ c κs. search needs)
-    (λ c κs. search needs)
-    (λ c. search needs)
-    returns)
+    tie.close (tie.spec (λ c κs. search needs) (λ c κs. search needs) (λ c κs. search needs) (λ c κs. search needs)
+    (λ c. search needs) returns)

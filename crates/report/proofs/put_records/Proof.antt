@@ -27,18 +27,6 @@ returns-2 c = (listed-all _ _ _ _ (omega arith) (c .before .loop .inv), omega ar
 
 pub put-records-spec : {M : Type 1} → statement M
 put-records-spec =
-    tie.close
-    (tie.spec
-    Inv-loop
-    μ-loop
-    (λ c. listed-none _ _ _ _)
-    (λ c. search needs)
-    (λ c. search needs)
-    returns
-    (λ c κs. (omega arith, omega arith))
-    (λ c. search needs)
-    (λ c. search needs)
-    (λ c. search needs)
-    loop-again
-    (λ c. search needs)
-    returns-2)
+    tie.close (tie.spec Inv-loop μ-loop (λ c. listed-none _ _ _ _) (λ c. search needs) (λ c. search needs) returns
+    (λ c κs. (omega arith, omega arith)) (λ c. search needs) (λ c. search needs) (λ c. search needs) loop-again
+    (λ c. search needs) returns-2)

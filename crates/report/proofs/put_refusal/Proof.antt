@@ -10,7 +10,7 @@ use Rattle.report.proofs.put_refusal.Statement.{statement}
 use Rattle.report.proofs.put_refusal.Tie as tie
 
 returns : tie.Need-returns
-unfolding bytes refusal
+unfolding refusal
 returns c =
     let second = c .before .before in
     let first = second .before .before .before .before in
@@ -20,10 +20,4 @@ returns c =
 
 pub put-refusal-spec : {M : Type 1} → statement M
 put-refusal-spec =
-    tie.close
-    (tie.spec
-    (λ c. search needs)
-    (λ c κs. search needs)
-    (λ c κs. search needs)
-    (λ c. search needs)
-    returns)
+    tie.close (tie.spec (λ c. search needs) (λ c κs. search needs) (λ c κs. search needs) (λ c. search needs) returns)

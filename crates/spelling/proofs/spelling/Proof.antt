@@ -12,20 +12,12 @@ part-result-end c =
     let located = c .before .before in
     let start = located .before .before .before in
     let h = located-within (length (start .args .text .now)) (start .args .tokens .now) (start .args .i) in
-    rw (c .before .wide .ensures .0, c .wide2 .ensures .0, located .locate .ensures) h
+    rw (c .before .index .ensures .0, c .index2 .ensures .0, located .locate .ensures) h
 
 returns : tie.Need-returns
-returns c = rw (add-sub-cancel-left, c .before .before .wide .ensures .0, c .before .wide2 .ensures .0, c .before .before .before .locate .ensures)
+returns c = rw (add-sub-cancel-left, c .before .before .index .ensures .0, c .before .index2 .ensures .0, c .before .before .before .locate .ensures)
 
 pub spelling-spec : {M : Type 1} → statement M
 spelling-spec =
-    tie.close
-    (tie.spec
-    (λ c κs. search needs)
-    (λ c κs. search needs)
-    (λ c κs. search needs)
-    (λ c. search needs)
-    (λ c. search needs)
-    (λ c. search needs)
-    part-result-end
-    returns)
+    tie.close (tie.spec (λ c κs. search needs) (λ c κs. search needs) (λ c κs. search needs) (λ c. search needs)
+    (λ c. search needs) (λ c. search needs) part-result-end returns)

@@ -5,40 +5,24 @@ use mathlib.Core.Path.{_≡_}
 use native.Mathlib.Omega.{arith}
 use borrow.Author.Needs.{needs}
 use lib.ListN.{length-set}
+use Rattle.tables.specs.Tables.{node-width}
 use Rattle.tables.proofs.Laws.{put-fits, put-full}
 use Rattle.tables.proofs.put_node.Statement.{statement}
 use Rattle.tables.proofs.put_node.Tie as tie
 
 returns : tie.Need-returns
 returns c =
-    let i = 4 * c .before .args .n in
-    let e : i + 1 ≡ suc i = omega arith in
-    let d : i + 2 ≡ suc (suc i) = omega arith in
-    let g : i + 3 ≡ suc (suc (suc i)) = omega arith in
-    rw (e, d, g) (put-fits 4 _ _ _ (omega arith))
+    let at = node-width * c .before .args .n in
+    let second : at + 1 ≡ suc at = omega arith in
+    let third : at + 2 ≡ suc (suc at) = omega arith in
+    let fourth : at + 3 ≡ suc (suc (suc at)) = omega arith in
+    rw (second, third, fourth) (put-fits node-width _ _ _ (omega arith))
 
 returns-2 : tie.Need-returns-2
-returns-2 c = put-full 4 _ _ _ (omega arith)
+returns-2 c = put-full node-width _ _ _ (omega arith)
 
 pub put-node-spec : {M : Type 1} → statement M
 put-node-spec =
-    tie.close
-    (tie.spec
-    (λ c. search needs)
-    (λ c. search needs)
-    (λ c. search needs)
-    (λ c. search needs)
-    (λ c. search needs)
-    (λ c. search needs)
-    (λ c. simp length-set (omega arith))
-    (λ c. search needs)
-    (λ c. search needs)
-    (λ c. search needs)
-    (λ c. simp length-set (omega arith))
-    (λ c. search needs)
-    (λ c. search needs)
-    (λ c. search needs)
-    (λ c. simp length-set (omega arith))
-    (λ c. search needs)
-    returns
-    returns-2)
+    tie.close (tie.spec (λ c. search needs) (λ c. search needs) (λ c. search needs) (λ c. search needs) (λ c. search needs)
+    (λ c. simp length-set (omega arith)) (λ c. search needs) (λ c. search needs) (λ c. simp length-set (omega arith))
+    (λ c. search needs) (λ c. search needs) (λ c. simp length-set (omega arith)) (λ c. search needs) returns returns-2)

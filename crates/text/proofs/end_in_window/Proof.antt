@@ -13,17 +13,17 @@ use Rattle.text.proofs.end_in_window.Statement.{statement}
 use Rattle.text.proofs.end_in_window.Tie as tie
 
 abbrev Inv-loop : tie.InvT-loop
-Inv-loop class size text end₀ k₀ end k = (k ≤ size) × (end ≡ end-so-far size k (run (member class) text))
+Inv-loop class size text end₀ at₀ end at = (at ≤ size) × (end ≡ end-so-far size at (run (member class) text))
 
 abbrev μ-loop : tie.MeasureT-loop
-μ-loop class size text end₀ k₀ end k = size - k
+μ-loop class size text end₀ at₀ end at = size - at
 
 loop-again : tie.Need-loop-again Inv-loop μ-loop
 loop-again c =
     let tested = c .before .before in
     let turn = tested .before .before in
     let args = turn .before .before .before .args in
-    let k = turn .before .loop .k in
+    let k = turn .before .loop .at in
     let inside = tested .is-in .ensures in
     let placed =
     ⊎-elim (λ w. w .1 ∙ ap (λ (x : Bool). cond x (args .size) k) (sym (w .0 .taken) ∙ inside))
@@ -46,16 +46,6 @@ found c =
 pub end-in-window-spec : {M : Type 1} → statement M
 end-in-window-spec =
     tie.close
-    (tie.spec
-    Inv-loop
-    μ-loop
-    (λ c. (omega arith, end-unknown _ _ (c .before .args .size)))
-    (λ c. search needs)
-    (λ c. search needs)
-    (λ c κs. search needs)
-    (λ c κs. search needs)
-    (λ c. search needs)
-    (λ c. search needs)
-    loop-again
-    (λ c. let e = found c in search needs)
-    found)
+    (tie.spec Inv-loop μ-loop (λ c. (omega arith, end-unknown _ _ (c .before .args .size))) (search needs)
+    (search needs) (search needs) (search needs) (search needs) (search needs) loop-again
+    (λ c. let e = found c in search needs) found)

@@ -12,15 +12,15 @@ use Rattle.text.proofs.fills_block.Statement.{statement}
 use Rattle.text.proofs.fills_block.Tie as tie
 
 abbrev Inv-loop : tie.InvT-loop
-Inv-loop class text all₀ k₀ all k = (k ≤ block) × (all ≡ leb k (run (member class) text))
+Inv-loop class text all₀ place₀ all place = (place ≤ block) × (all ≡ leb place (run (member class) text))
 
 abbrev μ-loop : tie.MeasureT-loop
-μ-loop class text all₀ k₀ all k = block - k
+μ-loop class text all₀ place₀ all place = block - place
 
 loop-again : tie.Need-loop-again Inv-loop μ-loop
 loop-again c =
     let turn = c .before .before .before in
-    (omega arith, reaches-more _ _ (turn .loop .k) (omega arith) (turn .loop .inv .1) (c .is-in .ensures))
+    (omega arith, reaches-more _ _ (turn .loop .place) (omega arith) (turn .loop .inv .1) (c .is-in .ensures))
 
 returns : tie.Need-returns Inv-loop μ-loop
 returns c =
@@ -31,13 +31,5 @@ returns c =
 pub fills-block-spec : {M : Type 1} → statement M
 fills-block-spec =
     tie.close
-    (tie.spec
-    Inv-loop
-    μ-loop
-    (λ c. (omega arith, reaches-start _ _))
-    (λ c. search needs)
-    (λ c κs. search needs)
-    (λ c. search needs)
-    (λ c. search needs)
-    loop-again
-    returns)
+    (tie.spec Inv-loop μ-loop (λ c. (omega arith, reaches-start _ _)) (search needs) (search needs) (search needs)
+    (search needs) loop-again returns)

@@ -1,4 +1,4 @@
--- `text::is_digit` meets its contract: the digits are 48 to 57.
+-- `text::is_digit` meets its contract: the digits are 0 to 9.
 -- The code tests the bounds that the definition tests. Assumes nothing.
 use mathlib.Core.Path.{refl}
 use Rattle.text.specs.Bytes.{digit}

@@ -10,4 +10,4 @@ unfolding digit hexadecimal
 returns c = rw (c .is-digit .ensures)
 
 pub is-hexadecimal-spec : {M : Type 1} → statement M
-is-hexadecimal-spec = tie.close (tie.spec (λ c κs. search needs) returns)
+is-hexadecimal-spec = tie.close (tie.spec (search needs) returns)

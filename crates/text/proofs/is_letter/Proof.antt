@@ -1,4 +1,4 @@
--- `text::is_letter` meets its contract: the letters are 65 to 90 and 97 to 122.
+-- `text::is_letter` meets its contract: the letters are A to Z and a to z.
 -- The code tests the bounds that the definition tests. Assumes nothing.
 use mathlib.Core.Path.{refl}
 use Rattle.text.specs.Bytes.{letter}

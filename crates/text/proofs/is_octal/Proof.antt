@@ -1,4 +1,4 @@
--- `text::is_octal` meets its contract: the octal digits are 48 to 55.
+-- `text::is_octal` meets its contract: the octal digits are 0 to 7.
 -- The code tests the bounds that the definition tests. Assumes nothing.
 use mathlib.Core.Path.{refl}
 use Rattle.text.specs.Bytes.{octal}

@@ -10,4 +10,4 @@ unfolding ordinary
 returns c = rw (c .is-plain .ensures)
 
 pub is-ordinary-spec : {M : Type 1} → statement M
-is-ordinary-spec = tie.close (tie.spec (λ c κs. search needs) returns)
+is-ordinary-spec = tie.close (tie.spec (search needs) returns)

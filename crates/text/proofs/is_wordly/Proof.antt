@@ -10,4 +10,4 @@ unfolding wordly
 returns c = rw (c .before .is-letter .ensures, c .is-digit .ensures)
 
 pub is-wordly-spec : {M : Type 1} → statement M
-is-wordly-spec = tie.close (tie.spec (λ c κs. search needs) (λ c κs. search needs) returns)
+is-wordly-spec = tie.close (tie.spec (search needs) (search needs) returns)

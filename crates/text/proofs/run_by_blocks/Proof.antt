@@ -17,15 +17,15 @@ use Rattle.text.proofs.run_by_blocks.Statement.{statement}
 use Rattle.text.proofs.run_by_blocks.Tie as tie
 
 abbrev Inv-loop : tie.InvT-loop
-Inv-loop class text n₀ n = Passed (member class) text n
+Inv-loop class text passed₀ passed = Passed (member class) text passed
 
 abbrev μ-loop : tie.MeasureT-loop
-μ-loop class text n₀ n = length text - n
+μ-loop class text passed₀ passed = length text - passed
 
 fills-block-requires : tie.Need-fills-block-requires Inv-loop μ-loop
 fills-block-requires c κs =
     let text = c .before .before .before .before .args .text .now in
-    let n = c .before .before .loop .n in
+    let n = c .before .before .loop .passed in
     omega (arith, ap length (rest text n), length-drop n text, c .before .loop-test .taken)
 
 loop-again : tie.Need-loop-again Inv-loop μ-loop
@@ -33,7 +33,7 @@ loop-again c =
     let turn = c .before .before .before .before in
     let args = turn .before .before .args in
     let class = member (args .class) in
-    let n = turn .loop .n in
+    let n = turn .loop .passed in
     let fills =
     sym (ap (λ (l : List ℕ). leb block (run class l)) (rest (args .text .now) n)) ∙ sym (c .before .fills-block .ensures)
     ∙ not-false _ (c .if1 .left) in
@@ -45,17 +45,6 @@ returns c = c .past-run .ensures ∙ sym (c .before .before .loop .inv .so-far)
 pub run-by-blocks-spec : {M : Type 1} → statement M
 run-by-blocks-spec =
     tie.close
-    (tie.spec
-    Inv-loop
-    μ-loop
-    (λ c. passed-none _ _)
-    (λ c. c .loop .inv .within)
-    (λ c. search needs)
-    (λ c. search needs)
-    (λ c. search needs)
-    fills-block-requires
-    (λ c. search needs)
-    (λ c. search needs)
-    loop-again
-    (λ c κs. c .before .loop .inv .within)
+    (tie.spec Inv-loop μ-loop (λ c. passed-none _ _) (λ c. c .loop .inv .within) (search needs) (search needs)
+    (search needs) fills-block-requires (search needs) (search needs) loop-again (λ c κs. c .before .loop .inv .within)
     returns)

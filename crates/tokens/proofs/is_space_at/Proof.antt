@@ -1,9 +1,9 @@
 -- `tokens::is_space_at` meets its contract: the byte is tested where there is one.
--- White space is not above byte 32; past the end stands 256, which is none. Assumes nothing.
+-- White space is not above byte 32; past the end stands `end`, which is none. Assumes nothing.
 use mathlib.Core.Path.{_≡_, ap, sym, _∙_}
 use borrow.Author.Needs.{needs}
 use lib.ListN.{getD, List·getD-eq-default}
-use Rattle.text.specs.Bytes.{at, space}
+use Rattle.text.specs.Bytes.{end, at, space}
 use Rattle.text.proofs.Runs.{at-inside}
 use Rattle.lexemes.proofs.Sorting.{above-space}
 use Rattle.tokens.proofs.is_space_at.Statement.{statement}
@@ -21,7 +21,7 @@ returns-2 c = c .is-space .ensures ∙ ap space (inside (c .before .before .befo
 
 returns-3 : tie.Need-returns-3
 unfolding space
-returns-3 c = sym (ap space (List·getD-eq-default (c .before .before .args .text .now) 256 (c .if1 .left)))
+returns-3 c = sym (ap space (List·getD-eq-default (c .before .before .args .text .now) end (c .if1 .left)))
 
 pub is-space-at-spec : {M : Type 1} → statement M
 is-space-at-spec = tie.close (tie.spec (λ c. search needs) returns (λ c κs. search needs) returns-2 returns-3)

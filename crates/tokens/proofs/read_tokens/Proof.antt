@@ -2,13 +2,14 @@
 -- A text above the ceiling is not read; tokens without room and a fault zero the table. Assumes nothing.
 use mathlib.Core.Bool.{true}
 use mathlib.Core.Path.{_≡_, ap, sym, _∙_}
-use Prim.Native.Nat.{ℕ, _^_, _<_}
+use Prim.Native.Nat.{ℕ, _<_}
 use mathlib.Core.List.{List}
 use native.Mathlib.Omega.{arith}
 use borrow.Author.Needs.{needs}
 use borrow.Author.Tests.{not-true, not-false}
 use lib.ListN.{length, replicate}
 use Rattle.limits.specs.Limits.{good-text}
+use Rattle.tables.specs.Tables.{number-end}
 use Rattle.text.specs.Tokens.{tokens-of}
 use Rattle.tokens.specs.Answer.{Scanned}
 use Rattle.tokens.specs.declared.Found.{Found}
@@ -49,7 +50,7 @@ counted c = rw (c .before .found2 .given .1) at (c .before .before .before .befo
 within : (c : tie.After-known-told2) → good-text (length (entry (scanned c) .args .text .now)) ≡ true
 within c = good (scanned c .before .before)
 
-small : (c : tie.After-known-told2) → length (entry (scanned c) .args .text .now) < 2 ^ 32
+small : (c : tie.After-known-told2) → length (entry (scanned c) .args .text .now) < number-end
 small c = short (length (entry (scanned c) .args .text .now)) (within c)
 
 scan-requires : tie.Need-scan-requires
@@ -91,25 +92,7 @@ returns-4 c =
 
 pub read-tokens-spec : {M : Type 1} → statement M
 read-tokens-spec =
-    tie.close
-    (tie.spec
-    (λ c κs. search needs)
-    (λ c κs. search needs)
-    returns
-    scan-requires
-    (λ c. search needs)
-    (λ c κs. search needs)
-    (λ c. search needs)
-    cast-accepted
-    cast-accepted-2
-    (λ c κs. search needs)
-    (λ c. search needs)
-    returns-2
-    (λ c κs. search needs)
-    cast-more-tokens
-    cast-more-tokens-2
-    (λ c κs. search needs)
-    (λ c. search needs)
-    returns-3
-    (λ c. search needs)
-    returns-4)
+    tie.close (tie.spec (λ c κs. search needs) (λ c κs. search needs) returns scan-requires (λ c. search needs)
+    (λ c κs. search needs) (λ c. search needs) cast-accepted cast-accepted-2 (λ c κs. search needs)
+    (λ c. search needs) returns-2 (λ c κs. search needs) cast-more-tokens cast-more-tokens-2 (λ c κs. search needs)
+    (λ c. search needs) returns-3 (λ c. search needs) returns-4)

@@ -7,10 +7,14 @@ use native.Mathlib.Omega.{arith}
 use borrow.Author.Needs.{needs}
 use lib.ListN.{length, drop}
 use Rattle.text.specs.Lexemes.{lexeme}
-use Rattle.text.specs.Tokens.{then}
+use Rattle.text.specs.Tokens.{Tokens, fault, then, tokens-of}
 use Rattle.text.specs.declared.Lexeme.{Lexeme}
 use Rattle.text.specs.declared.Lexeme.the-variants.{Blank, Token}
 use Rattle.words.specs.Table.{table}
+use Rattle.replies.specs.declared.Reply.{Reply}
+use Rattle.replies.specs.Replies as rows
+use Rattle.tokens.specs.Answer.{Scanned}
+use Rattle.tokens.specs.declared.Found.the-variants as found
 use Rattle.text.proofs.Rests.{rest}
 use Rattle.text.proofs.Sizes.{Sized}
 use Rattle.tokens.proofs.Scans.{Reading, reading-starts, reading-length, next-sized, reading-blank, reading-token}
@@ -19,10 +23,10 @@ use Rattle.tokens.proofs.scan.Statement.{statement}
 use Rattle.tokens.proofs.scan.Tie as tie
 
 abbrev Inv-loop : tie.InvT-loop
-Inv-loop text tokens₀ words at₀ n₀ tokens at n = (words ≡ table) × Reading text tokens₀ tokens at n
+Inv-loop text tokens₀ words at₀ count₀ tokens at count = (words ≡ table) × Reading text tokens₀ tokens at count
 
 abbrev μ-loop : tie.MeasureT-loop
-μ-loop text tokens₀ words at₀ n₀ tokens at n = length text - at
+μ-loop text tokens₀ words at₀ count₀ tokens at count = length text - at
 
 -- the turn of the loop, and the function's entry, of a lexeme that was read
 abbrev turn : tie.After-lexeme Inv-loop μ-loop → tie.In-loop Inv-loop μ-loop
@@ -87,8 +91,8 @@ token-sized c =
 cast-put-token-2 : tie.Need-cast-put-token-2 Inv-loop μ-loop
 cast-put-token-2 c = omega (arith, token-sized (c .before) .1)
 
-add-n : tie.Need-add-n Inv-loop μ-loop
-add-n c = omega (arith, token-sized (c .before .before .before .before) .1)
+add-count : tie.Need-add-count Inv-loop μ-loop
+add-count c = omega (arith, token-sized (c .before .before .before .before) .1)
 
 add-past-space-2 : tie.Need-add-past-space-2 Inv-loop μ-loop
 add-past-space-2 c = omega (arith, token-sized (c .before .before .before .before) .1)
@@ -114,97 +118,52 @@ loop-again-2 c =
           (reading-token _ _ (turn read .loop-test .taken) (turn read .before .loop .inv .1) (token-next token))),
     )
 
-same-length : tie.Need-same-length Inv-loop μ-loop
-same-length c = let read = c .before .before .before in reading-length _ _ (turn read .before .loop .inv .1)
+-- the table keeps its length
+kept : (c : tie.After-lexeme Inv-loop μ-loop) → length (turn c .before .loop .tokens) ≡ length (entry c .args .tokens .now)
+kept c = reading-length _ _ (turn c .before .loop .inv .1)
+
+-- a fault at this turn decides what the text is
+faulty : (c : tie.After-lexeme Inv-loop μ-loop) {l : Lexeme} {reply : Reply} {after : List ℕ} (number : ℕ) →
+    let at = turn c .before .loop .at in
+    ((rest : ℕ → Tokens) → then l at rest ≡ fault number at) → l ≡ lexeme (left c) → reply ≡ rows.fault number at →
+    Scanned (tokens-of (entry c .args .text .now)) (entry c .args .tokens .now) after (found.Fault reply)
+faulty c = reading-fault _ _ (turn c .loop-test .taken) (turn c .before .loop .inv .1)
 
 returns : tie.Need-returns Inv-loop μ-loop
 unfolding then
 returns c =
     let read = c .before .before .before in
-    reading-fault _ _ (turn read .loop-test .taken) (turn read .before .loop .inv .1) 2 (λ rest. refl)
-    (sym (c .before .enum-told .given .1) ∙ next read) (c .no-lexeme .ensures)
-
-same-length-2 : tie.Need-same-length-2 Inv-loop μ-loop
-same-length-2 c = let read = c .before .before .before in reading-length _ _ (turn read .before .loop .inv .1)
+    faulty read 2 (λ rest. refl) (sym (c .before .enum-told .given .1) ∙ next read) (c .no-lexeme .ensures)
 
 returns-2 : tie.Need-returns-2 Inv-loop μ-loop
 unfolding then
 returns-2 c =
     let read = c .before .before .before in
-    reading-fault _ _ (turn read .loop-test .taken) (turn read .before .loop .inv .1) 3 (λ rest. refl)
-    (sym (c .before .enum-told2 .given .1) ∙ next read) (c .left-open .ensures)
-
-same-length-3 : tie.Need-same-length-3 Inv-loop μ-loop
-same-length-3 c = let read = c .before .before .before in reading-length _ _ (turn read .before .loop .inv .1)
+    faulty read 3 (λ rest. refl) (sym (c .before .enum-told2 .given .1) ∙ next read) (c .left-open .ensures)
 
 returns-3 : tie.Need-returns-3 Inv-loop μ-loop
 unfolding then
 returns-3 c =
     let read = c .before .before .before in
-    reading-fault _ _ (turn read .loop-test .taken) (turn read .before .loop .inv .1) 4 (λ rest. refl)
-    (sym (c .before .enum-told3 .given .1) ∙ next read) (c .bad-literal .ensures)
-
-same-length-4 : tie.Need-same-length-4 Inv-loop μ-loop
-same-length-4 c = let read = c .before .before .before in reading-length _ _ (turn read .before .loop .inv .1)
+    faulty read 4 (λ rest. refl) (sym (c .before .enum-told3 .given .1) ∙ next read) (c .bad-literal .ensures)
 
 returns-4 : tie.Need-returns-4 Inv-loop μ-loop
 unfolding then
 returns-4 c =
     let read = c .before .before .before in
-    reading-fault _ _ (turn read .loop-test .taken) (turn read .before .loop .inv .1) 5 (λ rest. refl)
-    (sym (c .before .enum-told4 .given .1) ∙ next read) (c .other-case .ensures)
-
-same-length-5 : tie.Need-same-length-5 Inv-loop μ-loop
-same-length-5 c = reading-length _ _ (c .before .loop .inv .1)
+    faulty read 5 (λ rest. refl) (sym (c .before .enum-told4 .given .1) ∙ next read) (c .other-case .ensures)
 
 returns-5 : tie.Need-returns-5 Inv-loop μ-loop
 returns-5 c = reading-ends _ _ (c .loop-test .left) (c .before .loop .inv .1)
 
 pub scan-spec : {M : Type 1} → statement M
 scan-spec =
-    tie.close
-    (tie.spec
-    Inv-loop
-    μ-loop
-    (λ c κs. search needs)
-    (λ c. (c .words .ensures, reading-starts _ _))
-    (λ c. search needs)
-    (λ c. search needs)
-    (λ c. search needs)
-    (λ c κs. search needs)
-    (λ c. search needs)
-    add-past-space
-    past-space-requires
-    loop-less
-    loop-again
-    (λ c. search needs)
-    (λ c. omega arith)
-    cast-put-token-2
-    (λ c κs. search needs)
-    add-n
-    add-past-space-2
-    past-space-requires-2
-    loop-less-2
-    loop-again-2
-    (λ c. search needs)
-    (λ c. omega arith)
-    (λ c κs. search needs)
-    same-length
-    returns
-    (λ c. search needs)
-    (λ c. omega arith)
-    (λ c κs. search needs)
-    same-length-2
-    returns-2
-    (λ c. search needs)
-    (λ c. omega arith)
-    (λ c κs. search needs)
-    same-length-3
-    returns-3
-    (λ c. search needs)
-    (λ c. omega arith)
-    (λ c κs. search needs)
-    same-length-4
-    returns-4
-    same-length-5
-    returns-5)
+    tie.close (tie.spec Inv-loop μ-loop (λ c κs. search needs) (λ c. (c .words .ensures, reading-starts _ _))
+    (λ c. search needs) (λ c. search needs) (λ c. search needs) (λ c κs. search needs) (λ c. search needs)
+    add-past-space past-space-requires loop-less loop-again (λ c. search needs) (λ c. omega arith) cast-put-token-2
+    (λ c κs. search needs) add-count add-past-space-2 past-space-requires-2 loop-less-2 loop-again-2 (λ c. search needs)
+    (λ c. omega arith) (λ c κs. search needs) (λ c. kept (c .before .before .before)) returns (λ c. search needs)
+    (λ c. omega arith) (λ c κs. search needs) (λ c. kept (c .before .before .before)) returns-2 (λ c. search needs)
+    (λ c. omega arith) (λ c κs. search needs) (λ c. kept (c .before .before .before)) returns-3 (λ c. search needs)
+    (λ c. omega arith) (λ c κs. search needs) (λ c. kept (c .before .before .before)) returns-4
+    (λ c. reading-length _ _ (c .before .loop .inv .1)) returns-5)

@@ -12,14 +12,14 @@ unfolding complete
 returns c =
     let args = c .before .before .args in
     let has-stopped = c .before .has-stopped in
-    simp (ne-eqb _ 0 (stopped-if (args .s) (has-stopped .ensures) (c .if1 .taken)))
+    simp (ne-eqb _ 0 (stopped-if (args .state) (has-stopped .ensures) (c .if1 .taken)))
 
 returns-2 : tie.Need-returns-2
 unfolding complete
 returns-2 c =
     let args = c .before .before .before .args in
     let has-stopped = c .before .before .has-stopped in
-    simp (c .place .ensures, eq-eqb _ 0 (going-if (args .s) (has-stopped .ensures) (c .before .if1 .left)))
+    simp (c .place .ensures, eq-eqb _ 0 (going-if (args .state) (has-stopped .ensures) (c .before .if1 .left)))
 
 pub is-complete-spec : {M : Type 1} → statement M
 is-complete-spec = tie.close (tie.spec (λ c κs. search needs) returns (λ c κs. search needs) returns-2)

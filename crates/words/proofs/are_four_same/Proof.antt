@@ -4,7 +4,6 @@ use mathlib.Core.Bool.{Bool, true, false, _&&_}
 use mathlib.Core.Path.{_≡_, refl}
 use native.Mathlib.Omega.{arith}
 use borrow.Author.Needs.{needs}
-use Rattle.kinds.specs.Kinds.{same}
 use Rattle.words.proofs.Spellings.{four-bytes}
 use Rattle.words.proofs.are_four_same.Statement.{statement}
 use Rattle.words.proofs.are_four_same.Tie as tie
@@ -14,30 +13,15 @@ and-true true = refl
 and-true false = refl
 
 returns : tie.Need-returns
-unfolding same
 returns c =
     let start = c .before .before .before .before .before .before .before .before in
-    let w = start .args .w .now in
-    let v = start .args .v .now in
+    let w = start .args .word .now in
+    let v = start .args .spelling .now in
     let i = start .args .i in
     rw (four-bytes w i (start .pre .1), four-bytes v i (omega arith), and-true)
 
 pub are-four-same-spec : {M : Type 1} → statement M
 are-four-same-spec =
-    tie.close
-    (tie.spec
-    (λ c. search needs)
-    (λ c. search needs)
-    (λ c. search needs)
-    (λ c. search needs)
-    (λ c. search needs)
-    (λ c. search needs)
-    (λ c. search needs)
-    (λ c. search needs)
-    (λ c. search needs)
-    (λ c. search needs)
-    (λ c. search needs)
-    (λ c. search needs)
-    (λ c. search needs)
-    (λ c. search needs)
-    returns)
+    tie.close (tie.spec (λ c. search needs) (λ c. search needs) (λ c. search needs) (λ c. search needs)
+    (λ c. search needs) (λ c. search needs) (λ c. search needs) (λ c. search needs) (λ c. search needs)
+    (λ c. search needs) (λ c. search needs) (λ c. search needs) (λ c. search needs) (λ c. search needs) returns)

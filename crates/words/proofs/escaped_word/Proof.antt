@@ -16,12 +16,12 @@ use Rattle.words.proofs.escaped_word.Statement.{statement}
 use Rattle.words.proofs.escaped_word.Tie as tie
 
 -- the run after the underscore
-counted : (c : tie.After-word-run) → c .word-run .result ≡ run wordly (drop 1 (c .before .before .before .args .bs .now))
-counted c = c .word-run .ensures ∙ ap (run wordly) (rest (c .before .before .before .args .bs .now) 1)
+counted : (c : tie.After-word-run) → c .word-run .result ≡ run wordly (drop 1 (c .before .before .before .args .rest .now))
+counted c = c .word-run .ensures ∙ ap (run wordly) (rest (c .before .before .before .args .rest .now) 1)
 
 add-t7 : tie.Need-add-t7
 add-t7 c =
-    let bs = c .before .before .before .args .bs .now in
+    let bs = c .before .before .before .args .rest .now in
     omega (arith, counted c, run-within wordly (drop 1 bs), length-drop 1 bs, c .before .before .before .good .0 .0)
 
 returns : tie.Need-returns
@@ -30,5 +30,5 @@ returns c = ap (Token identifier) (ap (λ (n : ℕ). n + 1) (counted c) ∙ add-
 
 pub escaped-word-spec : {M : Type 1} → statement M
 escaped-word-spec =
-    tie.close
-    (tie.spec (λ c. search needs) (λ c. search needs) (λ c. search needs) (λ c κs. search needs) add-t7 returns)
+    tie.close (tie.spec (λ c. search needs) (λ c. search needs) (λ c. search needs) (λ c κs. search needs) add-t7
+    returns)

@@ -1,5 +1,5 @@
 -- `words::is_same_but_case` meets its contract. The loop's invariant: the bytes passed are the same but for case.
--- The first is, as they are near; a byte more keeps it; one that differs settles the comparison, and so does the end. Assumes nothing.
+-- The first is, as they are near; a byte more keeps it; one that differs settles it, and so does the end. Assumes nothing.
 use mathlib.Core.Path.{_≡_, ap, sym, _∙_}
 use Prim.Native.Nat.{_-_}
 use native.Mathlib.Omega.{arith}
@@ -18,14 +18,14 @@ abbrev μ-loop : tie.MeasureT-loop
 μ-loop w v i₀ i = length w - i
 
 -- the lengths are the same, and case aside the first letters
-one-length : (c : tie.Start Inv-loop μ-loop) → length (c .args .w .now) ≡ length (c .args .v .now)
+one-length : (c : tie.Start Inv-loop μ-loop) → length (c .args .word .now) ≡ length (c .args .spelling .now)
 one-length c = near-length _ _ _ (c .pre .0)
 
 loop-holds : tie.Need-loop-holds Inv-loop μ-loop
 loop-holds c =
     let start = c .before .before in
-    let w = start .args .w .now in
-    let v = start .args .v .now in
+    let w = start .args .word .now in
+    let v = start .args .spelling .now in
     let l = one-length start in
     let first =
     ap lower (at-inside w 0 (start .pre .1)) ∙ near-letter _ _ _ (start .pre .0) ∙ sym (ap lower (at-inside v 0 (omega (arith, l, start .pre .1)))) in
@@ -50,17 +50,6 @@ returns-2 c = passed-all case-bytewise _ _ (one-length (c .before .before .befor
 
 pub is-same-but-case-spec : {M : Type 1} → statement M
 is-same-but-case-spec =
-    tie.close
-    (tie.spec
-    Inv-loop
-    μ-loop
-    loop-holds
-    (λ c. search needs)
-    (λ c κs. search needs)
+    tie.close (tie.spec Inv-loop μ-loop loop-holds (λ c. search needs) (λ c κs. search needs)
     (λ c. let l = one-length (c .before .before .before .before .before .before .before) in search needs)
-    (λ c κs. search needs)
-    returns
-    (λ c. search needs)
-    (λ c. search needs)
-    loop-again
-    returns-2)
+    (λ c κs. search needs) returns (λ c. search needs) (λ c. search needs) loop-again returns-2)

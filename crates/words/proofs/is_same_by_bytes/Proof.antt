@@ -32,15 +32,5 @@ returns-2 c = passed-all same-bytewise _ _ (c .before .before .pre) (c .loop-tes
 
 pub is-same-by-bytes-spec : {M : Type 1} → statement M
 is-same-by-bytes-spec =
-    tie.close
-    (tie.spec
-    Inv-loop
-    μ-loop
-    loop-holds
-    (λ c. search needs)
-    (λ c. search needs)
-    returns
-    (λ c. search needs)
-    (λ c. search needs)
-    loop-again
-    returns-2)
+    tie.close (tie.spec Inv-loop μ-loop loop-holds (λ c. search needs) (λ c. search needs) returns (λ c. search needs)
+    (λ c. search needs) loop-again returns-2)

@@ -13,7 +13,7 @@ returns : tie.Need-returns
 unfolding likeness
 returns c = rw (sym (c .before .is-same .ensures) ∙ c .if1 .taken)
 
-not-same : (c : tie.Else1) → same (c .before .before .before .before .args .w .now) (c .before .before .before .before .args .v .now) ≡ false
+not-same : (c : tie.Else1) → same (c .before .before .before .before .args .word .now) (c .before .before .before .before .args .spelling .now) ≡ false
 not-same c = sym (c .before .is-same .ensures) ∙ c .if1 .left
 
 returns-2 : tie.Need-returns-2

@@ -6,7 +6,7 @@ use native.Mathlib.Omega.{arith}
 use borrow.Author.Needs.{needs}
 use denote.Ref.{now}
 use lib.ListN.{length, take, drop}
-use Rattle.words.specs.Table.{spelling, likeness, near-to}
+use Rattle.words.specs.Table.{row-size, spelling, likeness, near-to}
 use Rattle.words.proofs.Spellings.{near-length}
 use Rattle.words.proofs.Rules.{bounds-at, spelling-at, table-length}
 use Rattle.words.proofs.likeness_to.Statement.{statement}
@@ -21,29 +21,22 @@ part-likeness-of-end c =
 
 -- the part that is lent
 part : (c : tie.Start) →
-    let start = c .args .row * 14 in
-    take (start + length (now (c .args .w)) - start) (drop start (now (c .args .words))) ≡ spelling (c .args .row)
+    let start = c .args .row * row-size in
+    take (start + length (now (c .args .word)) - start) (drop start (now (c .args .words))) ≡ spelling (c .args .row)
 part c =
     let e = near-length _ _ _ (c .pre .1 .0) in
-    let n : c .args .row * 14 + length (now (c .args .w)) - c .args .row * 14 ≡ length (spelling (c .args .row)) = omega arith in
+    let n : c .args .row * row-size + length (now (c .args .word)) - c .args .row * row-size ≡ length (spelling (c .args .row)) = omega arith in
     rw (c .pre .0 .0, n) (spelling-at (c .pre .0 .1))
 
 likeness-of-requires : tie.Need-likeness-of-requires
 likeness-of-requires c κs =
     let start = c .before .before .before in
-    (ap (near-to (now (start .args .w))) (part start) ∙ start .pre .1 .0, start .pre .1 .1)
+    (ap (near-to (now (start .args .word))) (part start) ∙ start .pre .1 .0, start .pre .1 .1)
 
 returns : tie.Need-returns
-returns c = c .likeness-of .ensures ∙ ap (likeness (now (c .before .before .before .before .args .w))) (part (c .before .before .before .before))
+returns c = c .likeness-of .ensures ∙ ap (likeness (now (c .before .before .before .before .args .word))) (part (c .before .before .before .before))
 
 pub likeness-to-spec : {M : Type 1} → statement M
 likeness-to-spec =
-    tie.close
-    (tie.spec
-    (λ c. search needs)
-    (λ c. search needs)
-    (λ c. search needs)
-    (λ c. search needs)
-    part-likeness-of-end
-    likeness-of-requires
-    returns)
+    tie.close (tie.spec (λ c. search needs) (λ c. search needs) (λ c. search needs) (λ c. search needs)
+    part-likeness-of-end likeness-of-requires returns)

@@ -5,7 +5,7 @@ use Rattle.words.proofs.Letters.{Lettered, letter-at}
 use Rattle.words.proofs.place_of.Statement.{statement}
 use Rattle.words.proofs.place_of.Tie as tie
 
-lettered : (c : tie.Start) → Lettered (c .args .b)
+lettered : (c : tie.Start) → Lettered (c .args .byte)
 lettered c = letter-at (omega arith) (c .pre)
 
 sub-result : tie.Need-sub-result

@@ -1,9 +1,10 @@
--- `words::sorted` meets its contract. The loop's invariant: no row before this one is the word, case aside, and this one is near it.
+-- `words::sorted` meets its contract. The loop's invariant: no row before this one is the word, case aside; this one is near.
 -- The rows between two near ones are not near, so none of them is the word. Assumes nothing.
 use mathlib.Core.Path.{sym, _∙_}
 use Prim.Native.Nat.{_-_}
 use native.Mathlib.Omega.{arith}
 use borrow.Author.Needs.{needs}
+use Rattle.words.specs.Table.{row-count}
 use Rattle.words.proofs.Letters.{letter-inside}
 use Rattle.words.proofs.Search.{Searched, searched-first, searched-next, sorted-same, sorted-but-case, sorted-none}
 use Rattle.words.proofs.sorted.Statement.{statement}
@@ -13,7 +14,7 @@ abbrev Inv-loop : tie.InvT-loop
 Inv-loop words w row₀ row = Searched w row
 
 abbrev μ-loop : tie.MeasureT-loop
-μ-loop words w row₀ row = 48 - row
+μ-loop words w row₀ row = row-count - row
 
 loop-holds : tie.Need-loop-holds Inv-loop μ-loop
 loop-holds c = searched-first _ (c .first-near .ensures)
@@ -21,7 +22,7 @@ loop-holds c = searched-first _ (c .first-near .ensures)
 likeness-to-requires : tie.Need-likeness-to-requires Inv-loop μ-loop
 likeness-to-requires c κs =
     let start = c .before .before .before .before in
-    (search needs, (c .before .loop .inv .there (c .loop-test .taken), letter-inside (start .args .w .now) (start .pre .1)))
+    (search needs, (c .before .loop .inv .there (c .loop-test .taken), letter-inside (start .args .word .now) (start .pre .1)))
 
 returns : tie.Need-returns Inv-loop μ-loop
 returns c =
@@ -48,21 +49,6 @@ returns-3 c = sorted-none _ (c .before .loop .inv) (c .loop-test .left)
 
 pub sorted-spec : {M : Type 1} → statement M
 sorted-spec =
-    tie.close
-    (tie.spec
-    Inv-loop
-    μ-loop
-    (λ c κs. search needs)
-    loop-holds
-    likeness-to-requires
-    (λ c. search needs)
-    (λ c κs. search needs)
-    returns
-    (λ c. search needs)
-    (λ c κs. search needs)
-    returns-2
-    (λ c. search needs)
-    (λ c κs. search needs)
-    loop-less
-    loop-again
-    returns-3)
+    tie.close (tie.spec Inv-loop μ-loop (λ c κs. search needs) loop-holds likeness-to-requires (λ c. search needs)
+    (λ c κs. search needs) returns (λ c. search needs) (λ c κs. search needs) returns-2 (λ c. search needs)
+    (λ c κs. search needs) loop-less loop-again returns-3)

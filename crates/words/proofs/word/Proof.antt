@@ -5,7 +5,7 @@ use Prim.Native.Nat.{ℕ, _≤_, _<_}
 use borrow.Author.Needs.{needs}
 use lib.ListN.{length, take}
 use lib.Seq.{length-take-le, getD-take}
-use Rattle.text.specs.Bytes.{run, letter, wordly}
+use Rattle.text.specs.Bytes.{end, run, letter, wordly}
 use Rattle.text.specs.Words.{spelled, sorted, word}
 use Rattle.text.proofs.Runs.{run-within}
 use Rattle.words.proofs.Sizes.{begun}
@@ -14,7 +14,7 @@ use Rattle.words.proofs.word.Tie as tie
 
 slice-aggregate-sorted : tie.Need-slice-aggregate-sorted
 slice-aggregate-sorted c =
-    let bs = c .before .before .before .args .bs .now in
+    let bs = c .before .before .before .args .rest .now in
     let n : c .before .word-run .result ≤ length bs = rw (c .before .word-run .ensures) (run-within wordly bs) in
     sym (length-take-le (c .before .word-run .result) bs n)
 
@@ -22,14 +22,14 @@ slice-aggregate-sorted c =
 sorted-requires : tie.Need-sorted-requires
 sorted-requires c κs =
     let start = c .before .before .before in
-    let bs = start .args .bs .now in
+    let bs = start .args .rest .now in
     let n : 0 < c .before .word-run .result = rw (c .before .word-run .ensures) (begun bs (start .pre .1)) in
-    (start .pre .0, ap letter (getD-take (c .before .word-run .result) bs 0 256 n) ∙ start .pre .1)
+    (start .pre .0, ap letter (getD-take (c .before .word-run .result) bs 0 end n) ∙ start .pre .1)
 
 returns : tie.Need-returns
 unfolding word spelled
 returns c =
-    let bs = c .before .before .before .before .args .bs .now in
+    let bs = c .before .before .before .before .args .rest .now in
     c .sorted .ensures ∙ ap (λ (n : ℕ). sorted (take n bs) (length (take n bs))) (c .before .before .word-run .ensures)
     ∙ ap (sorted (spelled bs)) (length-take-le (run wordly bs) bs (run-within wordly bs))
 

@@ -1,4 +1,4 @@
--- `words::words` meets its contract: the constant is the table that the 48 keywords make, which antt computes.
+-- `words::words` meets its contract: the constant is the table that the keywords make, which antt computes.
 -- Assumes nothing.
 use mathlib.Core.Path.{refl}
 use Rattle.words.specs.Table.{table}

@@ -1,0 +1,5 @@
+pub mod Compare
+pub mod Parser
+pub mod Maximal
+pub mod Word
+pub mod Viable

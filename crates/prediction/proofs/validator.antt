@@ -1,0 +1,6 @@
+pub mod Paths
+pub mod Equivalence
+pub mod Typing
+pub mod Look
+pub mod Fixpoint
+pub mod Check

@@ -1,0 +1,5 @@
+pub mod Typing
+pub mod Equivalence
+pub mod Conditions
+pub mod Fixpoint
+pub mod Check

@@ -1,3 +1,0 @@
-pub mod OneMeaning
-pub mod Outcomes
-pub mod Samples

@@ -1,1 +1,0 @@
-// Each text has one meaning, and what the reader finds is its verdict: theorems alone, in specs/.
