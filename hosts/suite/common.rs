@@ -1,6 +1,7 @@
 //! What the tests share: a call with ample tables.
 
-use super::reader::{read, Reply, DEPTH_CEILING, TOKEN_NUMBERS, TREE_NUMBERS};
+use super::reader::number::ACCEPTED;
+use super::reader::{read, read_tokens, Reply, DEPTH_CEILING, TOKEN_NUMBERS, TREE_NUMBERS};
 
 pub struct Outcome {
     pub reply: Reply,
@@ -42,4 +43,14 @@ pub fn outcome_at(text: &[u8], depth: u32) -> Outcome {
     let mut tree = vec![0; 2 * TREE_NUMBERS * text.len()];
     let reply = read(text, &mut tokens, &mut tree, depth);
     Outcome { reply, tokens, tree }
+}
+
+/// The kinds of the tokens of a text, or the number and place of its fault.
+pub fn tokens(text: &[u8]) -> Result<Vec<u32>, (u32, u32)> {
+    let mut table = vec![0; TOKEN_NUMBERS * text.len()];
+    let reply = read_tokens(text, &mut table);
+    match reply.number {
+        ACCEPTED => Ok(table.chunks(TOKEN_NUMBERS).take(reply.tokens as usize).map(|record| record[0]).collect()),
+        number => Err((number, reply.place)),
+    }
 }

@@ -1,8 +1,10 @@
-//! The texts that the readers are timed on are accepted, and have the size asked for.
+//! The texts that the readers are timed and counted on are accepted, and have the size and the words asked for.
 
-use super::common::outcome;
+use super::common::{outcome, tokens};
 use super::reader::number::ACCEPTED;
-use generate::corpus::{Corpus, CORPORA, SCANNER};
+use generate::corpus::{Corpus, CORPORA, COUNTED_SEED, COUNTED_SIZE, SCANNER, WORD_LISTS};
+use generate::kind::{FIRST_KEYWORD, FIRST_MARK, IDENTIFIER};
+use generate::Grammar;
 use std::collections::HashSet;
 
 fn check(corpus: &Corpus, size: usize, seed: u64) {
@@ -35,4 +37,21 @@ fn the_small_texts_of_a_kind_are_accepted_and_differ() {
 fn the_scanner_file_is_accepted() {
     let reply = outcome(SCANNER).reply;
     assert_eq!(reply.number, ACCEPTED, "refused at {}", reply.place);
+}
+
+/// The words of a list without their last letters.
+fn stems<'a>(words: impl Iterator<Item = &'a [u8]>) -> HashSet<&'a [u8]> {
+    words.map(|word| &word[..word.len() - 1]).collect()
+}
+
+#[test]
+fn the_words_of_a_list_are_of_its_sort() {
+    let grammar_kinds = Grammar::published().kinds;
+    let [identifiers, keywords, near] = WORD_LISTS.map(|list| list.text(&grammar_kinds, COUNTED_SIZE, COUNTED_SEED));
+    let kinds = |text: &[u8]| tokens(text).expect("tokens").into_iter().collect::<HashSet<u32>>();
+    assert_eq!(kinds(&identifiers), HashSet::from([IDENTIFIER]));
+    assert_eq!(kinds(&keywords), (FIRST_KEYWORD..FIRST_MARK).collect());
+    assert_eq!(kinds(&near), HashSet::from([IDENTIFIER]));
+    let near_words = near.split(u8::is_ascii_whitespace).filter(|word| !word.is_empty());
+    assert_eq!(stems(near_words), stems(grammar_kinds.keywords().map(str::as_bytes)));
 }

@@ -1,6 +1,6 @@
 //! What the papers mean by a lexeme and a fault, where a reader could stumble.
 
-use super::common::numbers_of;
+use super::common::{numbers_of, tokens};
 use super::reader::number::{ACCEPTED, BAD_CALL, BAD_LITERAL, KEYWORD_CASE, NO_LEXEME, OPEN, TOKEN_TABLE_FULL};
 use super::reader::{read_tokens, spelling, TEXT_CEILING, TOKEN_NUMBERS};
 use generate::kind::*;
@@ -9,16 +9,6 @@ use generate::Grammar;
 /// The kind of a keyword or mark.
 fn kind(spelling: &str) -> u32 {
     Grammar::published().kinds.of(spelling)
-}
-
-/// The kinds of the tokens of a text, or the number and place of its fault.
-fn tokens(text: &[u8]) -> Result<Vec<u32>, (u32, u32)> {
-    let mut table = vec![0; TOKEN_NUMBERS * text.len()];
-    let reply = read_tokens(text, &mut table);
-    match reply.number {
-        ACCEPTED => Ok(table.chunks(TOKEN_NUMBERS).take(reply.tokens as usize).map(|record| record[0]).collect()),
-        number => Err((number, reply.place)),
-    }
 }
 
 fn assert_tokens(text: &str, kinds: &[u32]) {
@@ -152,6 +142,20 @@ fn words() {
     assert_tokens("constx const_ con", &[IDENTIFIER; 3]);
     assert_faults(&[b"false", b"object", b"True", b"valuebase", b"LONG", b"IN", b"WString"], KEYWORD_CASE, 0);
     assert_tokens("import component getraises L", &[IDENTIFIER; 4]);
+}
+
+#[test]
+fn long_words() {
+    let mut table = [0; TOKEN_NUMBERS];
+    for start in Grammar::published().kinds.keywords().chain(["no_keyword"]) {
+        // The first two lengths have the low byte, and the low two bytes, of the start's.
+        for length in [start.len() + (1 << 8), start.len() + (1 << 16), TEXT_CEILING] {
+            let word = [start.as_bytes(), &vec![b'a'; length - start.len()]].concat();
+            let reply = numbers_of(read_tokens(&word, &mut table));
+            assert_eq!(reply, (ACCEPTED, length as u32, 1, 0), "{start}");
+            assert_eq!(table, [IDENTIFIER, 0, length as u32], "{start}");
+        }
+    }
 }
 
 #[test]

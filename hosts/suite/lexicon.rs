@@ -4,7 +4,11 @@ use super::common::numbers_of;
 use super::reader::number::ACCEPTED;
 use super::reader::{read_tokens, TOKEN_NUMBERS};
 use generate::lexicon;
+use generate::text::LETTERS;
 use generate::{Cases, Grammar, Random};
+
+/// The bit in which the two cases of a letter differ.
+const CASE: u8 = b'a' ^ b'A';
 
 fn check(text: &[u8], grammar: &Grammar) {
     let mut table = vec![0; TOKEN_NUMBERS * text.len()];
@@ -83,20 +87,41 @@ fn agrees_on_every_single_byte_between_tokens_and_inside_literals() {
 }
 
 #[test]
-fn agrees_on_words_near_keywords() {
+fn agrees_on_keywords_in_every_case() {
     let grammar = Grammar::published();
     for keyword in grammar.kinds.keywords() {
-        check(keyword.as_bytes(), &grammar);
-        check(keyword.to_uppercase().as_bytes(), &grammar);
-        check(keyword.to_lowercase().as_bytes(), &grammar);
-        check(format!("_{keyword} {keyword}_ {keyword}0 a{keyword} {}", &keyword[1..]).as_bytes(), &grammar);
+        for changed in 0..1 << keyword.len() {
+            let other_case = |(place, byte)| if changed >> place & 1 == 0 { byte } else { byte ^ CASE };
+            check(&keyword.bytes().enumerate().map(other_case).collect::<Vec<u8>>(), &grammar);
+        }
+    }
+}
+
+#[test]
+fn agrees_on_words_near_keywords() {
+    let grammar = Grammar::published();
+    for keyword in grammar.kinds.keywords().map(str::as_bytes) {
+        check(&keyword[1..], &grammar);
         for place in 0..keyword.len() {
-            let mut word = keyword.as_bytes().to_vec();
-            word[place] ^= 32;
-            check(&word, &grammar);
-            word[place] ^= 1;
-            check(&word, &grammar);
-            check(&keyword.as_bytes()[..place], &grammar);
+            check(&keyword[..place], &grammar);
+        }
+        for byte in 0..=255 {
+            check(&[&[byte], keyword].concat(), &grammar);
+            check(&[keyword, &[byte]].concat(), &grammar);
+            for place in 0..keyword.len() {
+                check(&[&keyword[..place], &[byte], &keyword[place + 1..]].concat(), &grammar);
+            }
+        }
+    }
+}
+
+#[test]
+fn agrees_on_every_first_letter_with_every_length() {
+    let grammar = Grammar::published();
+    let longest = grammar.kinds.keywords().map(str::len).max().expect("keywords");
+    for &letter in LETTERS {
+        for rest in 0..=longest + 1 {
+            check(&[vec![letter], vec![b'a'; rest]].concat(), &grammar);
         }
     }
 }

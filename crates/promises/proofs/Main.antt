@@ -4,18 +4,23 @@ use Prim.Native.Nat.{ℕ, suc, _≤_, _<_}
 use mathlib.Core.Path.{_≡_}
 use mathlib.Core.Bool.{true, false}
 use mathlib.Core.List.{List, map}
-use lib.ListN.{length}
+use lib.ListN.{length, getD}
 use Rattle.grammar.specs.Blame.{Begins, Blame}
 use Rattle.grammar.specs.Depth.{Within}
 use Rattle.grammar.specs.Derivation.{kind-at, Derivation}
 use Rattle.grammar.specs.Forest.{Forest, leaves}
 use Rattle.grammar.specs.Meaning.{Meaning}
 use Rattle.grammar.specs.Rule.{Edition}
+use Rattle.kinds.specs.Kinds.{bytes, keywords, keyword}
 use Rattle.limits.specs.Limits.{good-call}
 use Rattle.replies.specs.declared.Reply.{Reply}
 use Rattle.replies.specs.Replies as rows
 use Rattle.tables.specs.Tables.{capacity, token-width, node-width, zeroed}
+use Rattle.text.specs.Bytes.{at}
 use Rattle.text.specs.Tokens.{tokens, tokens-of}
+use Rattle.text.specs.Words.{lower, sorted}
+use Rattle.words.specs.Search.{near-keywords, most-near, sorted-among, comparisons}
+use Rattle.words.proofs.Sorting as words
 use Rattle.meaning.specs.Sense.{Sense, Means, TextSense, TextMeans, kind, tree-records}
 use Rattle.meaning.specs.Verdict.{verdict}
 use Rattle.meaning.specs.Answer.{place}
@@ -177,3 +182,29 @@ module _ {E : Edition} (offered : Offered E) where
 
 pub starred-samples : All Holds starred
 starred-samples = starred-hold
+
+-- Request A2, of edition 1. A word is compared in full in one place of the code, `words::compare`: it asks, and so it is proved at each call, that the
+-- keyword is near the word and that fewer than three comparisons are counted, and counts one more. `words::search` is proved to answer `sorted-among` and
+-- to end with the count `comparisons`, of the keywords near the word. That nothing else compares or sets the count is seen in crates/words/src/lib.rt.
+
+module _ (w : List ℕ) where
+  -- the keywords near a word are keywords, with its length and, case aside, its first letter;
+  pub near-keyword : (j : ℕ) → j < length (near-keywords w) →
+      let v = bytes (getD (near-keywords w) j "") in
+      (0 < keyword v) × ((length w ≡ length v) × (lower (at w 0) ≡ lower (at v 0)))
+  near-keyword = words.near-keyword w
+
+  -- they are never more than three,
+  pub few-near : length (near-keywords w) ≤ most-near
+  few-near = words.few w
+
+  -- and they are enough: the answer is that of the definition, which goes through all keywords
+  pub near-enough : sorted-among w (near-keywords w) ≡ sorted w (length w)
+  near-enough = words.near-enough w
+
+  -- so there are at most three comparisons, and none where no keyword has the word's length
+  pub few-comparisons : comparisons w (near-keywords w) ≤ most-near
+  few-comparisons = words.few-comparisons w
+
+  pub no-comparison : ((k : ℕ) → k < length keywords → length w ≡ length (bytes (getD keywords k "")) → ⊥) → comparisons w (near-keywords w) ≡ 0
+  no-comparison = words.no-comparison w

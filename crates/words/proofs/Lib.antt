@@ -1,5 +1,8 @@
 pub mod Spellings
 pub mod Letters
+pub mod Comparing
+pub mod Filter
 pub mod Rules
-pub mod Search
+pub mod Sorting
+pub mod Searching
 pub mod Sizes

@@ -2,19 +2,22 @@
 ghost use mathlib.Core.Bool.{true};
 ghost use mathlib.Core.Path.{_≡_};
 ghost use Prim.Native.Nat.{suc, _+_, _≤_, _<_};
-ghost use lib.ListN.{length};
-ghost use Rattle.kinds.specs.Kinds.{first-keyword, same};
+ghost use lib.ListN.{length, getD};
+ghost use Rattle.kinds.specs.Kinds.{keyword, same};
 ghost use Rattle.text.specs.Bytes.{at, letter};
 ghost use Rattle.text.specs.Words as text-words;
-ghost use Rattle.words.specs.Table.{row-count, table, at-once, place-of, four-at, likeness, spelling, First, near-to};
+ghost use Rattle.words.specs.Search.{near-to, near-keywords, most-near, sorted-among, comparisons};
+ghost use Rattle.words.specs.Comparison as comparison;
+ghost use Rattle.words.specs.Comparison.{at-once, part, byte-end, with-bit, all-letters, likeness};
+ghost use Rattle.words.specs.Table.{row-count, table, place-of, spelling, First};
 use kinds::kind;
 use text::Lexeme;
 
 // The rows of the table below, numbered from 0.
 const ROWS: usize = 48;
 
-// Where a row has its kind, behind its spelling.
-const KIND: usize = 12;
+// Where a row has its kind, behind its spelling: so placed that a row has 16 bytes.
+const KIND: usize = 14;
 
 // Where a row has the next row near it.
 const NEXT: usize = KIND + 1;
@@ -37,88 +40,92 @@ const LETTERS: usize = 26;
 // Where the index starts.
 const INDEX: usize = ROWS * ROW_SIZE;
 
+// Where the index would start if letters and lengths were counted from 0 on: they are from 1 and from the shortest on.
+const ORIGIN: usize = INDEX - (LENGTHS + SHORTEST);
+
 // The bytes of the table.
 pub const TABLE_SIZE: usize = INDEX + LETTERS * LENGTHS;
 
-// The keywords in byte order, a row each: the spelling filled up, the kind, and the next row with the same length and, case
-// aside, the same first letter. Then the index: for each letter, a line each, and each length of a keyword the first row that
-// has them. \x30 is ROWS, which is no row. What fills a row has no two neighbours alike: the compiler stores equal bytes
-// by themselves, and the table, which is made at each call, took twice as long.
+// The keywords, a row each: first those that the data-only edition has, too, then the others, both in byte order, so that the
+// keywords of an edition are the first rows. A row has the spelling filled up, the kind, and the next row with the same length and,
+// case aside, the same first letter. Then the index: for each letter, a line each, and each length of a keyword the first row that
+// has them. ~ and ^ stand for no row. What only fills up takes turns: a run of equal bytes the compiler stores by itself, and the
+// table, which is made at each call, took twice as long.
 const WORDS: [u8; TABLE_SIZE] = *b"\
-    FALSE=-=-=-=\x10\x12\
-    Object-=-=-=\x11\x1c\
-    TRUE-=-=-=-=\x12\x30\
-    ValueBase=-=\x13\x2c\
-    abstract-=-=\x14\x30\
-    any=-=-=-=-=\x15\x30\
-    attribute=-=\x16\x30\
-    boolean=-=-=\x17\x30\
-    case-=-=-=-=\x18\x09\
-    char-=-=-=-=\x19\x30\
-    const=-=-=-=\x1a\x30\
-    context=-=-=\x1b\x30\
-    custom-=-=-=\x1c\x30\
-    default=-=-=\x1d\x30\
-    double-=-=-=\x1e\x30\
-    enum-=-=-=-=\x1f\x30\
-    exception=-=\x20\x30\
-    factory=-=-=\x21\x30\
-    fixed=-=-=-=\x22\x13\
-    float=-=-=-=\x23\x30\
-    in-=-=-=-=-=\x24\x30\
-    inout=-=-=-=\x25\x30\
-    interface=-=\x26\x30\
-    local=-=-=-=\x27\x30\
-    long-=-=-=-=\x28\x30\
-    module-=-=-=\x29\x30\
-    native-=-=-=\x2a\x30\
-    octet=-=-=-=\x2b\x30\
-    oneway-=-=-=\x2c\x30\
-    out=-=-=-=-=\x2d\x30\
-    private=-=-=\x2e\x30\
-    public-=-=-=\x2f\x30\
-    raises-=-=-=\x30\x30\
-    readonly-=-=\x31\x30\
-    sequence-=-=\x32\x26\
-    short=-=-=-=\x33\x30\
-    string-=-=-=\x34\x25\
-    struct-=-=-=\x35\x27\
-    supports-=-=\x36\x30\
-    switch-=-=-=\x37\x30\
-    truncatable=\x38\x30\
-    typedef=-=-=\x39\x30\
-    union=-=-=-=\x3a\x30\
-    unsigned-=-=\x3b\x30\
-    valuetype=-=\x3c\x30\
-    void-=-=-=-=\x3d\x30\
-    wchar=-=-=-=\x3e\x30\
-    wstring=-=-=\x3f\x30\
-    \x30\x05\x30\x30\x30\x30\x04\x06\x30\x30\
-    \x30\x30\x30\x30\x30\x07\x30\x30\x30\x30\
-    \x30\x30\x08\x0a\x0c\x0b\x30\x30\x30\x30\
-    \x30\x30\x30\x30\x0e\x0d\x30\x30\x30\x30\
-    \x30\x30\x0f\x30\x30\x30\x30\x10\x30\x30\
-    \x30\x30\x30\x00\x30\x11\x30\x30\x30\x30\
-    \x30\x30\x30\x30\x30\x30\x30\x30\x30\x30\
-    \x30\x30\x30\x30\x30\x30\x30\x30\x30\x30\
-    \x14\x30\x30\x15\x30\x30\x30\x16\x30\x30\
-    \x30\x30\x30\x30\x30\x30\x30\x30\x30\x30\
-    \x30\x30\x30\x30\x30\x30\x30\x30\x30\x30\
-    \x30\x30\x18\x17\x30\x30\x30\x30\x30\x30\
-    \x30\x30\x30\x30\x19\x30\x30\x30\x30\x30\
-    \x30\x30\x30\x30\x1a\x30\x30\x30\x30\x30\
-    \x30\x1d\x30\x1b\x01\x30\x30\x30\x30\x30\
-    \x30\x30\x30\x30\x1f\x1e\x30\x30\x30\x30\
-    \x30\x30\x30\x30\x30\x30\x30\x30\x30\x30\
-    \x30\x30\x30\x30\x20\x30\x21\x30\x30\x30\
-    \x30\x30\x30\x23\x24\x30\x22\x30\x30\x30\
-    \x30\x30\x02\x30\x30\x29\x30\x30\x30\x28\
-    \x30\x30\x30\x2a\x30\x30\x2b\x30\x30\x30\
-    \x30\x30\x2d\x30\x30\x30\x30\x03\x30\x30\
-    \x30\x30\x30\x2e\x30\x2f\x30\x30\x30\x30\
-    \x30\x30\x30\x30\x30\x30\x30\x30\x30\x30\
-    \x30\x30\x30\x30\x30\x30\x30\x30\x30\x30\
-    \x30\x30\x30\x30\x30\x30\x30\x30\x30\x30\
+    FALSE=-=-=-=-=\x10\x09\
+    TRUE-=-=-=-=-=\x12~\
+    boolean=-=-=-=\x17~\
+    case-=-=-=-=-=\x18\x04\
+    char-=-=-=-=-=\x19~\
+    const=-=-=-=-=\x1a~\
+    default=-=-=-=\x1d~\
+    double-=-=-=-=\x1e~\
+    enum-=-=-=-=-=\x1f~\
+    fixed=-=-=-=-=\x22\x0a\
+    float=-=-=-=-=\x23~\
+    long-=-=-=-=-=\x28~\
+    module-=-=-=-=\x29~\
+    native-=-=-=-=\x2a~\
+    octet=-=-=-=-=\x2b~\
+    sequence-=-=-=\x32\x2c\
+    short=-=-=-=-=\x33~\
+    string-=-=-=-=\x34\x12\
+    struct-=-=-=-=\x35\x13\
+    switch-=-=-=-=\x37~\
+    typedef=-=-=-=\x39~\
+    union=-=-=-=-=\x3a~\
+    unsigned-=-=-=\x3b~\
+    wchar=-=-=-=-=\x3e~\
+    wstring=-=-=-=\x3f~\
+    Object-=-=-=-=\x11\x26\
+    ValueBase=-=-=\x13\x2e\
+    abstract-=-=-=\x14~\
+    any=-=-=-=-=-=\x15~\
+    attribute=-=-=\x16~\
+    context=-=-=-=\x1b~\
+    custom-=-=-=-=\x1c~\
+    exception=-=-=\x20~\
+    factory=-=-=-=\x21~\
+    in-=-=-=-=-=-=\x24~\
+    inout=-=-=-=-=\x25~\
+    interface=-=-=\x26~\
+    local=-=-=-=-=\x27~\
+    oneway-=-=-=-=\x2c~\
+    out=-=-=-=-=-=\x2d~\
+    private=-=-=-=\x2e~\
+    public-=-=-=-=\x2f~\
+    raises-=-=-=-=\x30~\
+    readonly-=-=-=\x31~\
+    supports-=-=-=\x36~\
+    truncatable=-=\x38~\
+    valuetype=-=-=\x3c~\
+    void-=-=-=-=-=\x3d~\
+    ~\x1c~^~^\x1b\x1d~^\
+    ~^~^~\x02~^~^\
+    ~^\x03\x05\x1f\x1e~^~^\
+    ~^~^\x07\x06~^~^\
+    ~^\x08^~^~\x20~^\
+    ~^~\x00~\x21~^~^\
+    ~^~^~^~^~^\
+    ~^~^~^~^~^\
+    \x22^~\x23~^~\x24~^\
+    ~^~^~^~^~^\
+    ~^~^~^~^~^\
+    ~^\x0b\x25~^~^~^\
+    ~^~^\x0c^~^~^\
+    ~^~^\x0d^~^~^\
+    ~\x27~\x0e\x19^~^~^\
+    ~^~^\x29\x28~^~^\
+    ~^~^~^~^~^\
+    ~^~^\x2a^\x2b^~^\
+    ~^~\x10\x11^\x0f^~^\
+    ~^\x01^~\x14~^~\x2d\
+    ~^~\x15~^\x16^~^\
+    ~^\x2f^~^~\x1a~^\
+    ~^~\x17~\x18~^~^\
+    ~^~^~^~^~^\
+    ~^~^~^~^~^\
+    ~^~^~^~^~^\
 ";
 
 // How a word stands to a keyword's spelling.
@@ -136,40 +143,50 @@ pub fn words() -> [u8; TABLE_SIZE]
     WORDS
 }
 
-// What is added to a letter for its lower case.
-const TO_LOWER: u8 = b'a' - b'A';
-
-// A letter in lower case; any other byte as it is.
-fn lower(byte: u8) -> u8
-    ensures { λ r. ⌜ r ≡ text-words.lower byte ⌝ }
-{
-    match byte {
-        b'A'..=b'Z' => byte + TO_LOWER,
-        _ => byte,
-    }
-}
-
-// The bytes of a spelling that are compared at once.
+// The bytes that are compared at once.
 const AT_ONCE: usize = 4;
 
-// Whether the four bytes from a place on are the same.
-fn are_four_same(word: &[u8], spelling: &[u8], i: usize) -> bool
-    requires { ⌜ (length (now word) ≡ length (now spelling)) × (i + at-once ≤ length (now word)) ⌝ }
-    ensures { λ r. ⌜ r ≡ same (four-at i (now (word .entry))) (four-at i (now (spelling .entry))) ⌝ }
+// One more than the largest byte.
+const BYTE_END: u32 = 1 << 8;
+
+// The byte at a place, as a number of 32 bits.
+fn byte(bytes: &[u8], i: usize) -> u32
+    requires { ⌜ i < length (now bytes) ⌝ }
+    ensures { λ r. ⌜ (r ≡ getD (now (bytes .entry)) i 0) × (r < byte-end) ⌝ }
 {
-    (word[i] == spelling[i])
-        & ((word[i + 1] == spelling[i + 1])
-            & ((word[i + 2] == spelling[i + 2]) & (word[i + 3] == spelling[i + 3])))
+    bytes[i] as u32
 }
 
-// Whether a word is spelled exactly so, byte by byte: for words of fewer bytes than are compared at once.
-fn is_same_by_bytes(word: &[u8], spelling: &[u8]) -> bool
+// The bytes that are compared at once, from a place on, as one number: the compiler reads them so.
+fn packed(bytes: &[u8], i: usize) -> u32
+    requires { ⌜ i + at-once ≤ length (now bytes) ⌝ }
+    ensures { λ r. ⌜ r ≡ comparison.packed (part at-once i (now (bytes .entry))) ⌝ }
+{
+    byte(bytes, i)
+        + BYTE_END
+            * (byte(bytes, i + 1) + BYTE_END * (byte(bytes, i + 2) + BYTE_END * byte(bytes, i + 3)))
+}
+
+// A one in each byte that is compared at once.
+const EACH_BYTE: u32 = 1 + BYTE_END * (1 + BYTE_END * (1 + BYTE_END));
+
+// Whether the bytes that are compared at once, from a place on, are the same with a bit set in each.
+fn is_part_same(word: &[u8], spelling: &[u8], i: usize, bit: u8) -> bool
+    requires { ⌜ (length (now word) ≡ length (now spelling)) × (i + at-once ≤ length (now word)) ⌝ }
+    ensures { λ r. ⌜ r ≡ same (part at-once i (with-bit bit (now (word .entry)))) (part at-once i (with-bit bit (now (spelling .entry)))) ⌝ }
+{
+    let bits = (bit as u32) * EACH_BYTE;
+    (packed(word, i) | bits) == (packed(spelling, i) | bits)
+}
+
+// Whether a word is spelled so with a bit set in each byte, byte by byte: for words of fewer bytes than are compared at once.
+fn is_same_by_bytes(word: &[u8], spelling: &[u8], bit: u8) -> bool
     requires { ⌜ length (now word) ≡ length (now spelling) ⌝ }
-    ensures { λ r. ⌜ r ≡ same (now (word .entry)) (now (spelling .entry)) ⌝ }
+    ensures { λ r. ⌜ r ≡ same (with-bit bit (now (word .entry))) (with-bit bit (now (spelling .entry))) ⌝ }
 {
     let mut i = 0;
     while i < word.len() {
-        if word[i] != spelling[i] {
+        if (word[i] | bit) != (spelling[i] | bit) {
             return false;
         }
         i += 1;
@@ -177,50 +194,43 @@ fn is_same_by_bytes(word: &[u8], spelling: &[u8]) -> bool
     true
 }
 
-// Whether a word is spelled exactly so. The last comparison may look at bytes again, so that no single ones are left.
-fn is_same(word: &[u8], spelling: &[u8]) -> bool
+// Whether a word is spelled so with a bit set in each byte. The last comparison may look at bytes again, so that no single ones
+// are left.
+fn is_same(word: &[u8], spelling: &[u8], bit: u8) -> bool
     requires { ⌜ length (now word) ≡ length (now spelling) ⌝ }
-    ensures { λ r. ⌜ r ≡ same (now (word .entry)) (now (spelling .entry)) ⌝ }
+    ensures { λ r. ⌜ r ≡ same (with-bit bit (now (word .entry))) (with-bit bit (now (spelling .entry))) ⌝ }
 {
     let size = word.len();
     if size < AT_ONCE {
-        return is_same_by_bytes(word, spelling);
+        return is_same_by_bytes(word, spelling, bit);
     }
     let last = size - AT_ONCE;
     let mut i = 0;
     while i < last {
-        if !are_four_same(word, spelling, i) {
+        if !is_part_same(word, spelling, i, bit) {
             return false;
         }
         i += AT_ONCE;
     }
-    are_four_same(word, spelling, last)
+    is_part_same(word, spelling, last, bit)
 }
 
-// Whether a word is spelled so, the case of letters aside. Its length and first letter are the spelling's already.
-fn is_same_but_case(word: &[u8], spelling: &[u8]) -> bool
-    requires { ⌜ (near-to (now word) (now spelling) ≡ true) × (0 < length (now word)) ⌝ }
-    ensures { λ r. ⌜ r ≡ text-words.same-but-case (now (word .entry)) (now (spelling .entry)) ⌝ }
-{
-    let mut i = 1;
-    while i < word.len() {
-        if lower(word[i]) != lower(spelling[i]) {
-            return false;
-        }
-        i += 1;
-    }
-    true
-}
+// No bit: spellings are compared as they are.
+const NO_BIT: u8 = 0;
 
-// Compares a word with a spelling that has its length and, case aside, its first letter.
+// The bit by which a letter differs from its capital. With it set in both, a byte equals a letter exactly if it is that letter in
+// either case.
+const CASE_BIT: u8 = b'a' - b'A';
+
+// Compares a word with a spelling of its length, which has letters alone.
 fn likeness_of(word: &[u8], spelling: &[u8]) -> Likeness
-    requires { ⌜ (near-to (now word) (now spelling) ≡ true) × (0 < length (now word)) ⌝ }
+    requires { ⌜ (length (now word) ≡ length (now spelling)) × (all-letters (now spelling) ≡ true) ⌝ }
     ensures { λ r. ⌜ r ≡ likeness (now (word .entry)) (now (spelling .entry)) ⌝ }
 {
-    if is_same(word, spelling) {
+    if is_same(word, spelling, NO_BIT) {
         return Likeness::Same;
     }
-    if is_same_but_case(word, spelling) {
+    if is_same(word, spelling, CASE_BIT) {
         return Likeness::ButCase;
     }
     Likeness::Different
@@ -229,12 +239,12 @@ fn likeness_of(word: &[u8], spelling: &[u8]) -> Likeness
 // The bits of a letter that are its place in the alphabet, from 1 on, in either case.
 const PLACE_BITS: u8 = 0b11111;
 
-// A letter's place in the alphabet, from 0 on.
+// A letter's place in the alphabet, from 1 on.
 fn place_of(byte: u8) -> usize
     requires { ⌜ letter byte ≡ true ⌝ }
     ensures { λ r. ⌜ r ≡ place-of (text-words.lower byte) ⌝ }
 {
-    ((byte & PLACE_BITS) - 1) as usize
+    (byte & PLACE_BITS) as usize
 }
 
 // The first row with the length and, case aside, the first letter of a word.
@@ -249,7 +259,7 @@ fn first_near(words: &[u8; TABLE_SIZE], word: &[u8]) -> usize
     if LONGEST < size {
         return ROWS;
     }
-    words[INDEX + (place_of(word[0]) * LENGTHS + (size - SHORTEST))] as usize
+    words[ORIGIN + (place_of(word[0]) * LENGTHS + size)] as usize
 }
 
 // The next row with the length and, case aside, the first letter of this one.
@@ -263,37 +273,51 @@ fn next_near(words: &[u8; TABLE_SIZE], row: usize) -> usize
 // The kind of the keyword in a row.
 fn kind_of(words: &[u8; TABLE_SIZE], row: usize) -> u32
     requires { ⌜ (now words ≡ table) × (row < row-count) ⌝ }
-    ensures { λ r. ⌜ r ≡ first-keyword + row ⌝ }
+    ensures { λ r. ⌜ r ≡ keyword (spelling row) ⌝ }
 {
     words[row * ROW_SIZE + KIND] as u32
 }
 
-// Compares a word with a keyword that has its length and, case aside, its first letter.
-fn likeness_to(words: &[u8; TABLE_SIZE], row: usize, word: &[u8]) -> Likeness
+// Compares a word in full with a keyword, and counts the comparison. Nothing else compares in full.
+fn compare(words: &[u8; TABLE_SIZE], row: usize, word: &[u8], compared: &mut usize) -> Likeness
     requires { ⌜ (now words ≡ table) × (row < row-count) ⌝ }
-    requires { ⌜ (near-to (now word) (spelling row) ≡ true) × (0 < length (now word)) ⌝ }
+    requires { ⌜ (near-to (now word) (spelling row) ≡ true) × (now compared < most-near) ⌝ }
     ensures { λ r. ⌜ r ≡ likeness (now (word .entry)) (spelling row) ⌝ }
+    ensures { λ _. ⌜ now (compared .exit) ≡ now (compared .entry) + 1 ⌝ }
 {
+    *compared += 1;
     let all = &words[..];
     let start = row * ROW_SIZE;
     let end = start + word.len();
     likeness_of(word, &all[start..end])
 }
 
-// Sorts a word, by the rows that have its length and, case aside, its first letter.
-fn sorted(words: &[u8; TABLE_SIZE], word: &[u8]) -> Lexeme
+// Compares a word in full with the keywords near it, which have its length and, case aside, its first letter, and with no others: in
+// turn, up to the first that it is, case aside.
+fn search(words: &[u8; TABLE_SIZE], word: &[u8], compared: &mut usize) -> Lexeme
     requires { ⌜ (now words ≡ table) × (letter (at (now word) 0) ≡ true) ⌝ }
-    ensures { λ r. ⌜ r ≡ text-words.sorted (now (word .entry)) (length (now (word .entry))) ⌝ }
+    requires { ⌜ now compared ≡ 0 ⌝ }
+    ensures { λ r. ⌜ r ≡ sorted-among (now (word .entry)) (near-keywords (now (word .entry))) ⌝ }
+    ensures { λ _. ⌜ now (compared .exit) ≡ comparisons (now (word .entry)) (near-keywords (now (word .entry))) ⌝ }
 {
     let mut row = first_near(words, word);
     while row < ROWS {
-        match likeness_to(words, row, word) {
+        match compare(words, row, word, compared) {
             Likeness::Same => return Lexeme::Token(kind_of(words, row), word.len()),
             Likeness::ButCase => return Lexeme::OtherCase(kind_of(words, row)),
             Likeness::Different => row = next_near(words, row),
         }
     }
     Lexeme::Token(kind::IDENTIFIER, word.len())
+}
+
+// Sorts a word. The count of comparisons is for the contracts to speak of: nobody reads it, so the compiled code has none.
+fn sorted(words: &[u8; TABLE_SIZE], word: &[u8]) -> Lexeme
+    requires { ⌜ (now words ≡ table) × (letter (at (now word) 0) ≡ true) ⌝ }
+    ensures { λ r. ⌜ r ≡ text-words.sorted (now (word .entry)) (length (now (word .entry))) ⌝ }
+{
+    let mut compared = 0;
+    search(words, word, &mut compared)
 }
 
 // A word, at the front of the rest of a text.

@@ -66,3 +66,26 @@ pub fn check(count_lines: &str, bound_lines: &str) -> Result<(String, Vec<String
     wrong.extend(uncounted.map(|name| format!("{name}: a bound, but no count")));
     Ok((table, wrong))
 }
+
+/// How many words there are in a text of words and white space.
+fn count_words(text: &[u8]) -> usize {
+    text.split(u8::is_ascii_whitespace).filter(|word| !word.is_empty()).count()
+}
+
+/// A table of what the token part takes for each word of these texts, or for each byte of a text that is one word.
+pub fn by_word(count_lines: &str, texts: &[(&str, Vec<u8>)]) -> Result<String, String> {
+    let [ordinary, proved] = [counts(count_lines, "ordinary")?, counts(count_lines, "proved")?];
+    let mut table =
+        String::from("| Text | Words | Bytes | For each | Ordinary | Proved |\n|---|---|---|---|---|---|\n");
+    for (name, text) in texts {
+        let (words, bytes) = (count_words(text), text.len());
+        let (unit, units) = if words == 1 { ("byte", bytes) } else { ("word", words) };
+        let for_each = |counts: &Numbers| {
+            let count = counts.get(&format!("{name} tokens")).ok_or(format!("{name}: no count"))?;
+            Ok::<f64, String>(*count as f64 / units as f64)
+        };
+        let (theirs, ours) = (for_each(&ordinary)?, for_each(&proved)?);
+        table += &format!("| {name} | {words} | {bytes} | {unit} | {theirs:.2} | {ours:.2} |\n");
+    }
+    Ok(table)
+}

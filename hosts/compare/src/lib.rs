@@ -8,6 +8,7 @@ use std::fmt::Debug;
 
 pub mod bounds;
 pub mod stack;
+pub mod texts;
 
 /// Number, place and the two counts of a reply.
 pub type Numbers = [u32; 4];

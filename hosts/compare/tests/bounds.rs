@@ -1,6 +1,6 @@
 //! The check of instruction counts can fail, and fails for the right reason.
 
-use compare::bounds::{check, write};
+use compare::bounds::{by_word, check, write};
 
 const COUNTS: &str = "corba tokens ordinary 500000
 corba tokens proved 1000000
@@ -49,4 +49,14 @@ fn lines_that_cannot_be_read_fail() {
     assert!(check("corba tokens proved \n", "corba tokens 1\n").is_err());
     assert!(check("", "").is_err());
     assert!(write("").is_err());
+}
+
+#[test]
+fn counts_by_the_word_and_by_the_byte() {
+    let text = |words: &str| ("corba", words.as_bytes().to_vec());
+    let row = |words: &str| by_word(COUNTS, &[text(words)]).expect("lines").lines().last().map(String::from);
+    assert_eq!(row("a bc\nd \n ef "), Some("| corba | 4 | 12 | word | 125000.00 | 250000.00 |".to_string()));
+    assert_eq!(row("words"), Some("| corba | 1 | 5 | byte | 100000.00 | 200000.00 |".to_string()));
+    assert!(by_word(COUNTS, &[text("words"), ("data", b"words".to_vec())]).is_err());
+    assert!(by_word("corba tokens proved 1\n", &[text("words")]).is_err());
 }

@@ -106,7 +106,7 @@ fn some(alphabet: &[u8], least: usize, most: usize, random: &mut Random) -> Vec<
     (0..length).map(|_| *random.pick(alphabet)).collect()
 }
 
-const LETTERS: &[u8] = b"abcdefghijklmnopqrstuvwxyzABCDEFGHIJKLMNOPQRSTUVWXYZ";
+pub const LETTERS: &[u8] = b"abcdefghijklmnopqrstuvwxyzABCDEFGHIJKLMNOPQRSTUVWXYZ";
 const WORD: &[u8] = b"abcdefghijklmnopqrstuvwxyzABCDEFGHIJKLMNOPQRSTUVWXYZ0123456789_";
 const DIGITS: &[u8] = b"0123456789";
 const OCTAL: &[u8] = b"01234567";

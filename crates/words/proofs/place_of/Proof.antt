@@ -8,14 +8,11 @@ use Rattle.words.proofs.place_of.Tie as tie
 lettered : (c : tie.Start) → Lettered (c .args .byte)
 lettered c = letter-at (omega arith) (c .pre)
 
-sub-result : tie.Need-sub-result
-sub-result c = omega (arith, lettered c .a-to-z .0, lettered c .low-bits)
-
 cast-result : tie.Need-cast-result
-cast-result c = omega (arith, lettered c .a-to-z .1, lettered c .low-bits)
+cast-result c = omega (arith, lettered c .a-to-z .1, lettered c .placed)
 
 returns : tie.Need-returns
-returns c = omega (arith, lettered c .low-bits)
+returns c = omega (arith, lettered c .placed)
 
 pub place-of-spec : {M : Type 1} → statement M
-place-of-spec = tie.close (tie.spec sub-result cast-result returns)
+place-of-spec = tie.close (tie.spec cast-result returns)

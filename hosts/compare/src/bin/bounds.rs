@@ -13,8 +13,9 @@ fn run(files: &[String]) -> Result<Vec<String>, String> {
             Ok(Vec::new())
         }
         [counts, bounds] => {
-            let (table, wrong) = compare::bounds::check(&read(counts)?, &read(bounds)?)?;
-            print!("{table}");
+            let counts = read(counts)?;
+            let (table, wrong) = compare::bounds::check(&counts, &read(bounds)?)?;
+            print!("{table}\n{}", compare::bounds::by_word(&counts, &compare::texts::of_words())?);
             Ok(wrong)
         }
         _ => Err("usage: bounds COUNTS [BOUNDS]".to_string()),

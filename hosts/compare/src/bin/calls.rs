@@ -1,12 +1,9 @@
-//! Calls each part of both readers once on each text and prints, in this order, what it has called. Run by
-//! `hosts/instructions`, which counts the instructions of each call.
+//! Calls each part of both readers once on each text, on words alone only the token part, and prints, in this order,
+//! what it has called. Run by `hosts/instructions`, which counts the instructions of each call.
 
-use compare::{plain, plain_proved, Numbers};
-use generate::corpus::{CORPORA, SCANNER};
+use compare::{plain, plain_proved, texts, Numbers};
+use generate::corpus::{CORPORA, COUNTED_SEED, COUNTED_SIZE, SCANNER};
 use ordinary::{DEPTH_CEILING as DEPTH, TOKEN_NUMBERS, TREE_NUMBERS};
-
-const SIZE: usize = 100 << 10;
-const SEED: u64 = 1;
 
 /// What is counted. It is found by its name, so it is never inlined.
 #[no_mangle]
@@ -22,18 +19,27 @@ fn count(text: &str, part: &str, mut theirs: impl FnMut() -> Numbers, mut ours: 
     println!("{text} {part} proved");
 }
 
-fn count_parts(name: &str, text: &[u8]) {
-    let length = text.len();
+/// Counts the token part and gives the table that it has filled.
+fn count_tokens(name: &str, text: &[u8]) -> Vec<u32> {
     let count_of_tokens = ordinary::read_tokens(text, &mut []).tokens as usize;
     let mut tokens = vec![0; TOKEN_NUMBERS * count_of_tokens];
-    let mut tree = vec![0; 2 * TREE_NUMBERS * count_of_tokens];
-    let (mut other_tokens, mut other_tree) = (tokens.clone(), tree.clone());
+    let mut other_tokens = tokens.clone();
     count(
         name,
         "tokens",
         || plain(ordinary::read_tokens(text, &mut tokens)),
         || plain_proved(idl::raw::read_tokens(text, &mut other_tokens)),
     );
+    assert!(tokens == other_tokens, "{name}: the readers agree");
+    tokens
+}
+
+fn count_parts(name: &str, text: &[u8]) {
+    let length = text.len();
+    let mut tokens = count_tokens(name, text);
+    let count_of_tokens = tokens.len() / TOKEN_NUMBERS;
+    let mut tree = vec![0; 2 * TREE_NUMBERS * count_of_tokens];
+    let (mut other_tokens, mut other_tree) = (tokens.clone(), tree.clone());
     count(
         name,
         "tree",
@@ -50,7 +56,10 @@ fn count_parts(name: &str, text: &[u8]) {
 
 fn main() {
     for corpus in &CORPORA {
-        count_parts(corpus.name, &corpus.text(SIZE, SEED));
+        count_parts(corpus.name, &corpus.text(COUNTED_SIZE, COUNTED_SEED));
     }
     count_parts("scanner.idl", SCANNER);
+    for (name, text) in texts::of_words() {
+        count_tokens(name, &text);
+    }
 }
