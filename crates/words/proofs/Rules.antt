@@ -31,7 +31,7 @@ table-length = refl
 -- its numbers are bytes
 abbrev below : List ℕ → Bool
 below [] = true
-below (b ∷ bs) = ltb b (byte-end) && below bs
+below (b ∷ bs) = ltb b byte-end && below bs
 
 each-below : (bs : List ℕ) → T (below bs) → AllBytes bs
 each-below [] t i = omega arith

@@ -19,7 +19,7 @@ at-once = 4
 abbrev pub part : ℕ → ℕ → List ℕ → List ℕ
 part n i w = take n (drop i w)
 
--- one more than the largest byte
+-- the bits of a byte, and one more than the largest
 abbrev pub byte-bits : ℕ
 byte-bits = 8
 

@@ -14,7 +14,8 @@ returns c = ⊎-elim (λ e. rw e) (λ e. rw e) (c .match .keys1)
 returns-2 : tie.Need-returns-2
 unfolding quote
 returns-2 c =
-    simp (ne-eqb (c .before .args .byte) (code "\"") (λ e. c .match .rest .1 (inl e)), ne-eqb (c .before .args .byte) (code "'") (λ e. c .match .rest .1 (inr e)))
+    let byte = c .before .args .byte in
+    simp (ne-eqb byte (code "\"") (λ e. c .match .rest .1 (inl e)), ne-eqb byte (code "'") (λ e. c .match .rest .1 (inr e)))
 
 pub is-quote-spec : {M : Type 1} → statement M
 is-quote-spec = tie.close (tie.spec returns returns-2)
