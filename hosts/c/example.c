@@ -7,6 +7,7 @@
 
 #include <stdio.h>
 #include <stdlib.h>
+#include <string.h>
 
 static const char *const MEANINGS[] = {
     [IDL_ACCEPTED] = "accepted",
@@ -53,6 +54,20 @@ static void print_tree(const uint32_t *tree, size_t count) {
     }
 }
 
+/* Says what is wrong. The tables are zero then, but a keyword in another case is as long as the keyword. */
+static void print_refusal(const char *name, const uint8_t *text, idl_reply reply) {
+    const char *const keyword = reply.number == IDL_KEYWORD_CASE ? idl_keyword(reply.tokens) : NULL;
+    printf("%s:%u: ", name, (unsigned)reply.place);
+    if (keyword == NULL) {
+        printf("%s\n", MEANINGS[reply.number]);
+    } else {
+        const int length = (int)strlen(keyword);
+        const char *const word = (const char *)text + reply.place;
+        printf("'%.*s' differs only in case from the keyword '%s'; write '_%.*s' to use it as a name\n", length, word,
+               keyword, length, word);
+    }
+}
+
 /* Reads with room for a token a byte and two tree records a token, more than any text needs. */
 static int read_and_print(const char *name, const uint8_t *text, size_t text_len) {
     const size_t tokens_len = IDL_TOKEN_NUMBERS * text_len;
@@ -64,7 +79,7 @@ static int read_and_print(const char *name, const uint8_t *text, size_t text_len
         const idl_reply reply = idl_read(text, text_len, tokens, tokens_len, tree, tree_len, IDL_DEPTH_CEILING);
         failed = reply.number != IDL_ACCEPTED;
         if (failed) {
-            printf("%s:%u: %s\n", name, (unsigned)reply.place, MEANINGS[reply.number]);
+            print_refusal(name, text, reply);
         } else {
             print_tokens(text, text_len, tokens, tokens_len, reply.tokens);
             print_tree(tree, reply.records);

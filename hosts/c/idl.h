@@ -9,7 +9,7 @@
  * first token, one past the last token, records in its subtree with itself; children stand before their parent, left
  * to right. A table holds its length divided by 3 or 4, rounded down, records.
  *
- * Link with libidl.a (x86-64).
+ * C99 or C++; link with libidl.a (x86-64).
  */
 #ifndef IDL_H
 #define IDL_H
@@ -41,7 +41,7 @@ enum idl_number {
     IDL_NO_LEXEME = 2,        /* no lexeme starts at this place; counts 0 */
     IDL_OPEN = 3,             /* comment open at the end, or literal open at the end of its line; place: its start */
     IDL_BAD_LITERAL = 4,      /* bad literal; place: its start; counts 0 */
-    IDL_KEYWORD_CASE = 5,     /* keyword in another case; place: its start; counts 0 */
+    IDL_KEYWORD_CASE = 5,     /* keyword in another case; place: its start; tokens: the keyword's kind; records 0 */
     IDL_TOKEN_TABLE_FULL = 6, /* place: text length; tokens: the number needed */
     IDL_GRAMMAR = 7,          /* no text goes on with the token here; or the text ends too early: its length */
     IDL_TOO_DEEP = 8,         /* the opening mark at this place would take the depth past the setting */
@@ -51,7 +51,7 @@ enum idl_number {
 typedef struct {
     uint32_t number;  /* one of enum idl_number */
     uint32_t place;   /* in bytes */
-    uint32_t tokens;  /* how many tokens the text has, for 0 and 6 to 9 */
+    uint32_t tokens;  /* how many tokens the text has, for 0 and 6 to 9; the kind of a keyword, for 5 */
     uint32_t records; /* how many tree records it has, for 0 and 9 */
 } idl_reply;
 
@@ -75,8 +75,21 @@ enum idl_kind {
     IDL_STRING = 7,
     IDL_WIDE_STRING = 8,
     IDL_FIRST_KEYWORD = 16,
+    IDL_LAST_KEYWORD = 63,
     IDL_FIRST_MARK = 64
 };
+
+/* The spelling of the keyword of this kind; null for any other kind. */
+static inline const char *idl_keyword(uint32_t kind) {
+    static const char *const spellings[IDL_LAST_KEYWORD - IDL_FIRST_KEYWORD + 1] = {
+        "FALSE", "Object", "TRUE", "ValueBase", "abstract", "any", "attribute", "boolean", "case", "char",
+        "const", "context", "custom", "default", "double", "enum", "exception", "factory", "fixed", "float",
+        "in", "inout", "interface", "local", "long", "module", "native", "octet", "oneway", "out", "private",
+        "public", "raises", "readonly", "sequence", "short", "string", "struct", "supports", "switch",
+        "truncatable", "typedef", "union", "unsigned", "valuetype", "void", "wchar", "wstring",
+    };
+    return kind >= IDL_FIRST_KEYWORD && kind <= IDL_LAST_KEYWORD ? spellings[kind - IDL_FIRST_KEYWORD] : NULL;
+}
 
 /* Reads the tokens of a text. Replies 0 to 6; 0 says nothing of the grammar, and its records are 0. */
 idl_reply idl_read_tokens(const uint8_t *text, size_t text_len, uint32_t *tokens, size_t tokens_len);

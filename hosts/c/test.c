@@ -1,7 +1,9 @@
 /*
  * Calls the library with a text and tables of exactly the lent size: on the heap, where AddressSanitizer and valgrind
  * watch, and at both ends of pages that cannot be touched, the text and read-only tables on pages that cannot be
- * written.
+ * written. Demands besides that exactly the given keywords have a spelling, from the given kind on.
+ *
+ * Usage: test KIND KEYWORD...
  */
 #define _DEFAULT_SOURCE
 #include "idl.h"
@@ -13,6 +15,7 @@
 
 #define PAGE 4096
 #define FILLER 0x5aa5f00du
+#define KINDS_TRIED (3u << 16)
 #define LENGTH(array) (sizeof(array) / sizeof *(array))
 
 static void demand(int holds, const char *what) {
@@ -111,7 +114,9 @@ static const struct row ROWS[] = {
     {SHIFT, 30, 35, IDL_DEPTH_CEILING, {IDL_ACCEPTED, 26, 10, 0}, {IDL_TREE_TABLE_FULL, 26, 10, 9}},
     {"const long A = - -1;", 30, 40, IDL_DEPTH_CEILING, {IDL_ACCEPTED, 20, 8, 0}, {IDL_GRAMMAR, 17, 8, 0}},
     {"const long A = ((1));", 30, 40, 1, {IDL_ACCEPTED, 21, 10, 0}, {IDL_TOO_DEEP, 16, 10, 0}},
-    {"interface Factory { };", 3, 2, IDL_DEPTH_CEILING, {IDL_KEYWORD_CASE, 10, 0, 0}, {IDL_KEYWORD_CASE, 10, 0, 0}},
+    {"interface Factory { };", 3, 2, IDL_DEPTH_CEILING, {IDL_KEYWORD_CASE, 10, 33, 0}, {IDL_KEYWORD_CASE, 10, 33, 0}},
+    {"native A; FALSe", 1, 1, IDL_DEPTH_CEILING, {IDL_KEYWORD_CASE, 10, 16, 0}, {IDL_KEYWORD_CASE, 10, 16, 0}},
+    {"WString 08", 0, 0, IDL_DEPTH_CEILING, {IDL_KEYWORD_CASE, 0, 63, 0}, {IDL_KEYWORD_CASE, 0, 63, 0}},
     {"const long A = 08;", 2, 3, IDL_DEPTH_CEILING, {IDL_BAD_LITERAL, 15, 0, 0}, {IDL_BAD_LITERAL, 15, 0, 0}},
     {"/* x", 1, 1, IDL_DEPTH_CEILING, {IDL_OPEN, 0, 0, 0}, {IDL_OPEN, 0, 0, 0}},
     {"native A; \"\\x", 1, 1, IDL_DEPTH_CEILING, {IDL_OPEN, 10, 0, 0}, {IDL_OPEN, 10, 0, 0}},
@@ -189,7 +194,26 @@ static void test_reader(const struct row *row, enum stand stand) {
     give_back(text);
 }
 
-int main(void) {
+/* Demands the right spelling of a kind: a keyword's, or none. */
+static void test_keyword(uint32_t kind, uint32_t first, size_t count, char **keywords) {
+    const char *const found = idl_keyword(kind);
+    const int is_keyword = kind >= first && kind - first < count;
+    demand((found != NULL) == is_keyword, "exactly the keywords have a spelling");
+    demand(!is_keyword || strcmp(found, keywords[kind - first]) == 0, "the spelling of a keyword");
+}
+
+/* The smallest numbers, with many of more than 16 bits; the same with the top bit; and the largest. */
+static void test_keywords(uint32_t first, size_t count, char **keywords) {
+    for (uint32_t kind = 0; kind < KINDS_TRIED; kind++) {
+        test_keyword(kind, first, count, keywords);
+        test_keyword(kind | 1u << 31, first, count, keywords);
+        test_keyword(UINT32_MAX - kind, first, count, keywords);
+    }
+}
+
+int main(int count, char **words) {
+    demand(count > 2, "usage: test KIND KEYWORD...");
+    test_keywords((uint32_t)strtoul(words[1], NULL, 10), (size_t)count - 2, words + 2);
     for (int stand = HEAP; stand < STANDS; stand++) {
         test_spelling(stand);
         for (size_t at = 0; at < LENGTH(ROWS); at++) {

@@ -3,6 +3,12 @@
 use super::reader::number::ACCEPTED;
 use super::reader::{read, read_tokens, Reply, DEPTH_CEILING, TOKEN_NUMBERS, TREE_NUMBERS};
 
+/// The bit in which the two cases of a letter differ.
+pub const CASE: u8 = b'a' ^ b'A';
+
+/// Number, place and the two counts of a reply.
+pub type Numbers = (u32, u32, u32, u32);
+
 pub struct Outcome {
     pub reply: Reply,
     pub tokens: Vec<u32>,
@@ -10,8 +16,7 @@ pub struct Outcome {
 }
 
 impl Outcome {
-    /// Number, place and the two counts.
-    pub fn numbers(&self) -> (u32, u32, u32, u32) {
+    pub fn numbers(&self) -> Numbers {
         numbers_of(self.reply)
     }
 
@@ -27,8 +32,7 @@ impl Outcome {
     }
 }
 
-/// Number, place and the two counts of a reply.
-pub fn numbers_of(reply: Reply) -> (u32, u32, u32, u32) {
+pub fn numbers_of(reply: Reply) -> Numbers {
     (reply.number, reply.place, reply.tokens, reply.records)
 }
 
@@ -45,12 +49,12 @@ pub fn outcome_at(text: &[u8], depth: u32) -> Outcome {
     Outcome { reply, tokens, tree }
 }
 
-/// The kinds of the tokens of a text, or the number and place of its fault.
-pub fn tokens(text: &[u8]) -> Result<Vec<u32>, (u32, u32)> {
+/// The kinds of the tokens of a text, or the numbers of its refusal.
+pub fn tokens(text: &[u8]) -> Result<Vec<u32>, Numbers> {
     let mut table = vec![0; TOKEN_NUMBERS * text.len()];
     let reply = read_tokens(text, &mut table);
     match reply.number {
         ACCEPTED => Ok(table.chunks(TOKEN_NUMBERS).take(reply.tokens as usize).map(|record| record[0]).collect()),
-        number => Err((number, reply.place)),
+        _ => Err(numbers_of(reply)),
     }
 }

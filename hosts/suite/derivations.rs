@@ -1,7 +1,7 @@
 //! What the papers mean by a derivation and its records, where a reader could stumble.
 
 use super::common::{numbers_of, outcome, outcome_at};
-use super::reader::number::{ACCEPTED, BAD_CALL, GRAMMAR, KEYWORD_CASE, TOO_DEEP, TREE_TABLE_FULL};
+use super::reader::number::{ACCEPTED, BAD_CALL, GRAMMAR, TOO_DEEP, TREE_TABLE_FULL};
 use super::reader::{read_tree, DEPTH_CEILING, TEXT_CEILING, TREE_NUMBERS};
 use generate::kind::IDENTIFIER;
 use generate::Grammar;
@@ -110,9 +110,4 @@ fn the_tree_part_alone() {
     assert_eq!(call(&[native, 77, 1], 1, TEXT_CEILING, deep), (GRAMMAR, TEXT_CEILING as u32, 1, 0));
     assert_eq!(call(&[native, 77, 1], 1, 5, DEPTH_CEILING + 1), bad_call);
     assert_eq!(call(&[native, 77, 1], 1, 5, 0), bad_call);
-}
-
-#[test]
-fn a_fault_comes_before_the_grammar() {
-    assert_eq!(blamed("} Interface"), (KEYWORD_CASE, 2));
 }

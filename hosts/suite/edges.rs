@@ -1,6 +1,6 @@
 //! Limits: short tables, the ceilings of text and depth, every rule and every kind.
 
-use super::common::{numbers_of, outcome, outcome_at};
+use super::common::{numbers_of, outcome, outcome_at, Numbers};
 use super::reader::number::{ACCEPTED, BAD_CALL, TOKEN_TABLE_FULL, TOO_DEEP, TREE_TABLE_FULL};
 use super::reader::{read, DEPTH_CEILING, TEXT_CEILING, TOKEN_NUMBERS, TREE_NUMBERS};
 use generate::kind;
@@ -55,7 +55,7 @@ fn text_ceiling() {
 }
 
 /// Number, place and counts of the reply to a bad call.
-const REFUSED_CALL: (u32, u32, u32, u32) = (BAD_CALL, 0, 0, 0);
+const REFUSED_CALL: Numbers = (BAD_CALL, 0, 0, 0);
 
 /// A constant with so many parentheses around it.
 fn nested(depth: u32) -> Vec<u8> {

@@ -1,14 +1,11 @@
 //! The token part against the lexemes as tests on whole byte strings.
 
-use super::common::numbers_of;
+use super::common::{numbers_of, CASE};
 use super::reader::number::ACCEPTED;
 use super::reader::{read_tokens, TOKEN_NUMBERS};
 use generate::lexicon;
 use generate::text::LETTERS;
 use generate::{Cases, Grammar, Random};
-
-/// The bit in which the two cases of a letter differ.
-const CASE: u8 = b'a' ^ b'A';
 
 fn check(text: &[u8], grammar: &Grammar) {
     let mut table = vec![0; TOKEN_NUMBERS * text.len()];
@@ -19,7 +16,10 @@ fn check(text: &[u8], grammar: &Grammar) {
             assert_eq!(reply, wanted, "{}", text.escape_ascii());
             assert_eq!(table[..TOKEN_NUMBERS * tokens.len()], tokens.concat(), "{}", text.escape_ascii());
         }
-        Err((fault, place)) => assert_eq!(reply, (fault as u32, place as u32, 0, 0), "{}", text.escape_ascii()),
+        Err((fault, place)) => {
+            let (number, count) = fault.number_and_count();
+            assert_eq!(reply, (number, place as u32, count, 0), "{}", text.escape_ascii());
+        }
     }
 }
 

@@ -7,6 +7,7 @@ mod common;
 mod corpus;
 mod derivations;
 mod edges;
+mod keyword_case;
 mod lexemes;
 mod lexicon;
 mod samples;

@@ -93,7 +93,7 @@ fn forward_interface_with_a_base() {
 
 #[test]
 fn keyword_in_another_case() {
-    assert_fault("interface Factory { };", KEYWORD_CASE, 10);
+    assert_eq!(outcome(b"interface Factory { };").numbers(), (KEYWORD_CASE, 10, 33, 0));
     assert_accepted("interface _factory { };", 5, 5);
 }
 

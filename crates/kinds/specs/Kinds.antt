@@ -6,6 +6,7 @@ use Prim.Native.Nat.{ℕ, suc}
 use Prim.Native.Char.{code}
 use Prim.Native.String.{String, [] as nil, _∷_ as cons}
 use lib.Dec.{eqb, ltb}
+use lib.ListN.{getD}
 
 -- the bytes of a spelling
 abbrev pub bytes : String → List ℕ
@@ -48,6 +49,10 @@ keywords =
     "in" ∷ "inout" ∷ "interface" ∷ "local" ∷ "long" ∷ "module" ∷ "native" ∷ "octet" ∷ "oneway" ∷ "out" ∷ "private"
     ∷ "public" ∷ "raises" ∷ "readonly" ∷ "sequence" ∷ "short" ∷ "string" ∷ "struct" ∷ "supports" ∷ "switch" ∷
     "truncatable" ∷ "typedef" ∷ "union" ∷ "unsigned" ∷ "valuetype" ∷ "void" ∷ "wchar" ∷ "wstring" ∷ []
+
+-- the keyword with this number in the list, from 0 on, as bytes
+abbrev pub nth-keyword : ℕ → List ℕ
+nth-keyword n = bytes (getD keywords n "")
 
 -- marks, kinds 64 to 87 in the order of the paper
 abbrev pub first-mark : ℕ

@@ -1,5 +1,5 @@
--- Every lexeme takes a byte at least, and none past the end of the text.
--- By the tests of its first bytes: each kind of lexeme does so. Assumes nothing.
+-- Every lexeme takes a byte at least, and none past the end of the text; where it is a keyword in another case, the word at the front is.
+-- By the tests of its first bytes: each kind of lexeme does so, and none but a word is refused for its case. Assumes nothing.
 use mathlib.Core.Bool.{Bool, true, false, _&&_, _||_, cond}
 use mathlib.Core.List.{List, [], _∷_}
 use mathlib.Core.Path.{_≡_, refl}
@@ -10,13 +10,16 @@ use borrow.Author.Tests.{eqb-true}
 use lib.Dec.{eqb}
 use lib.ListN.{length}
 use Rattle.text.specs.Bytes.{end, at, run, space, letter, digit}
-use Rattle.text.specs.Lexemes.{lexeme, starts}
-use Rattle.text.specs.Literals.{quote}
+use Rattle.text.specs.Blanks.{line-comment, block-comment}
+use Rattle.text.specs.Lexemes.{mark, lexeme, starts}
+use Rattle.text.specs.Literals.{quote, literal, wide-literal}
+use Rattle.text.specs.Numbers.{number}
+use Rattle.text.specs.Words.{CaseAlone, spelled, escaped-word}
 use Rattle.text.specs.declared.Lexeme.{Lexeme}
 use Rattle.text.specs.declared.Lexeme.the-variants.{Blank}
 use Rattle.text.proofs.Rests.{byte-inside}
 use Rattle.text.proofs.Runs.{run-within}
-use Rattle.text.proofs.Sizes.{Sized}
+use Rattle.text.proofs.Sizes.{SizedOr, Sized, sized-or}
 use Rattle.blanks.proofs.Reach.{line-comment-sized, block-comment-sized}
 use Rattle.literals.proofs.Reach.{literal-sized, wide-literal-sized}
 use Rattle.marks.proofs.Reach.{mark-sized}
@@ -43,16 +46,19 @@ two-bytes x y bs h e =
     let f = eqb-true (at bs 1) y (right (eqb (at bs 0) x) (eqb (at bs 1) y) e) in
     byte-inside bs 1 (omega arith)
 
-pub lexeme-sized : (bs : List ℕ) → 0 < length bs → Sized (length bs) (lexeme bs)
+pub lexeme-sized : (bs : List ℕ) → 0 < length bs → SizedOr (CaseAlone (spelled bs)) (length bs) (lexeme bs)
 unfolding lexeme
 lexeme-sized bs h =
-    let P = Sized (length bs) in
+    let P = SizedOr (CaseAlone (spelled bs)) (length bs) in
+    let other = sized-or (CaseAlone (spelled bs)) (length bs) in
     choose P (space (at bs 0)) (space-sized bs h)
-    (λ _. choose P (starts (code "/") (code "/") bs) (λ e. line-comment-sized bs (two-bytes (code "/") (code "/") bs (omega arith) e))
-    (λ _. choose P (starts (code "/") (code "*") bs) (λ e. block-comment-sized bs (two-bytes (code "/") (code "*") bs (omega arith) e))
-    (λ _. choose P (quote (at bs 0)) (λ _. literal-sized bs)
-    (λ _. choose P (eqb (at bs 0) (code "L") && quote (at bs 1)) (λ _. wide-literal-sized bs)
+    (λ _. choose P (starts (code "/") (code "/") bs)
+    (λ e. other (line-comment bs) (line-comment-sized bs (two-bytes (code "/") (code "/") bs (omega arith) e)))
+    (λ _. choose P (starts (code "/") (code "*") bs)
+    (λ e. other (block-comment bs) (block-comment-sized bs (two-bytes (code "/") (code "*") bs (omega arith) e)))
+    (λ _. choose P (quote (at bs 0)) (λ _. other (literal bs) (literal-sized bs))
+    (λ _. choose P (eqb (at bs 0) (code "L") && quote (at bs 1)) (λ _. other (wide-literal bs) (wide-literal-sized bs))
     (λ _. choose P (letter (at bs 0)) (λ e. word-sized bs e)
-    (λ _. choose P (eqb (at bs 0) (code "_") && letter (at bs 1)) (λ _. escaped-word-sized bs h)
-    (λ _. choose P (digit (at bs 0) || eqb (at bs 0) (code ".")) (λ _. number-sized bs)
-    (λ _. mark-sized bs))))))))
+    (λ _. choose P (eqb (at bs 0) (code "_") && letter (at bs 1)) (λ _. other (escaped-word bs) (escaped-word-sized bs h))
+    (λ _. choose P (digit (at bs 0) || eqb (at bs 0) (code ".")) (λ _. other (number bs) (number-sized bs))
+    (λ _. other (mark bs) (mark-sized bs)))))))))

@@ -2,31 +2,22 @@
 -- accepted, and a place of blame is given where no mark before it is too deep. By the cases of the definitions.
 use Prim.Native.Nat.{ℕ, _≤_}
 use mathlib.Core.Path.{_≡_, refl}
-use mathlib.Core.Bool.{Bool, true, false, cond}
 use mathlib.Core.List.{List, [], _∷_, map}
 use native.Mathlib.Omega.{arith}
 use borrow.Author.Tests.{le-ltb}
-use lib.Dec.{eqb}
 use lib.ListN.{length}
 use Rattle.grammar.specs.Record.{TreeRecord, tree-record}
-use Rattle.replies.specs.declared.Reply.{Reply}
-use Rattle.replies.specs.Replies as rows
+use Rattle.replies.specs.Faults.{Fault, no-lexeme, left-open, bad-literal, other-case, row}
 use Rattle.tables.specs.Tables.{Records, none, more, front, token-width, node-width}
 use Rattle.meaning.specs.Sense.{blamed, derived, numbers}
 use Rattle.meaning.specs.Verdict.{Verdict, grammar, deep, full, accepted, fitted, judged, judgement, tokens-fitted}
 use Rattle.meaning.specs.Answer.{tree-reply, tokens-kept}
 
-pub fault-range : (number place : ℕ) → (2 ≤ rows.fault number place .number) × (rows.fault number place .number ≤ 5)
-fault-range number place = go (eqb number 2) (eqb number 3) (eqb number 4)
-  where
-    row-of : Bool → Bool → Bool → Reply
-    row-of x y z = cond x (rows.no-lexeme place) (cond y (rows.left-open place) (cond z (rows.bad-literal place) (rows.other-case place)))
-
-    go : (x y z : Bool) → (2 ≤ row-of x y z .number) × (row-of x y z .number ≤ 5)
-    go true y z = (omega arith, omega arith)
-    go false true z = (omega arith, omega arith)
-    go false false true = (omega arith, omega arith)
-    go false false false = (omega arith, omega arith)
+pub fault-range : (f : Fault) → (2 ≤ row f .number) × (row f .number ≤ 5)
+fault-range (no-lexeme place) = (omega arith, omega arith)
+fault-range (left-open place) = (omega arith, omega arith)
+fault-range (bad-literal place) = (omega arith, omega arith)
+fault-range (other-case place kind) = (omega arith, omega arith)
 
 pub four-wide : (rs : List TreeRecord) → Records node-width (map numbers rs)
 four-wide [] = none

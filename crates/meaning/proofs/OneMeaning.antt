@@ -34,7 +34,7 @@ module _ {E : Edition} (c : Checked E) where
     where
       go : (t : text.Tokens) → text.tokens-of bytes ≡ t → (s : TextSense) × TextMeans E bytes s
       go (text.tokens ts) e = let m = some-sense (map kind ts) in (sense.read ts (m .0), means-tokens e (m .1))
-      go (text.fault number place) e = (sense.faulty number place, means-fault e)
+      go (text.fault f) e = (sense.faulty f, means-fault e)
 
   pub one-text-sense : (bytes : List ℕ) (s s′ : TextSense) → TextMeans E bytes s → TextMeans E bytes s′ → s′ ≡ s
   one-text-sense bytes s s′ (means-fault e) (means-fault e′) = let p = sym e ∙ e′ in cc

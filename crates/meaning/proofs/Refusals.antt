@@ -31,8 +31,8 @@ pub text-either : (n : ℕ) (v : TextVerdict) (tokens tree : List ℕ) →
     (text-reply n v .number ≡ 0)
     ⊎ Refused 2 (text-reply n v) ((text-tokens-after v tokens ≡ zeroed tokens) × (text-tree-after v tree ≡ zeroed tree))
 unfolding text-reply tree-reply text-tokens-after tokens-kept text-tree-after tree-after
-text-either n (fault number place) tokens tree =
-    let h = fault-range number place in
+text-either n (fault f) tokens tree =
+    let h = fault-range f in
     inr (record { from = h .0; to = omega (arith, h .1); zeros = (refl, refl) })
 text-either n (full-tokens t) tokens tree = inr (record { from = omega arith; to = omega arith; zeros = (refl, refl) })
 text-either n (judgement ts (grammar q)) tokens tree = inr (record { from = omega arith; to = omega arith; zeros = (refl, refl) })

@@ -25,7 +25,7 @@ module _ (setting token-room tree-room : ℕ) where
   -- the verdict on the tokens of a text, or on its fault, through the reader of `prediction`
   unfoldable computed : Tokens → TextVerdict
   unfolding of-outcome parse
-  computed (scanned.fault number place) = fault number place
+  computed (scanned.fault f) = fault f
   computed (tokens ts) =
       cond (ltb token-room (length ts)) (full-tokens (length ts))
       (judgement ts (of-outcome idl (length (map kind ts)) tree-room (parse idl-checked setting (map kind ts) .0)))

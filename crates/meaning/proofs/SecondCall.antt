@@ -61,7 +61,7 @@ verdict-follows setting setting′ room room′ kinds sense h =
 -- the whole reader: a fault stays, and tokens are judged or not by the room alone
 unfoldable pub TextFollows : (token-room′ tree-room′ : ℕ) → TextVerdict → TextVerdict → Type 0
 unfolding Follows
-TextFollows token-room′ tree-room′ (fault number place) v′ = v′ ≡ fault number place
+TextFollows token-room′ tree-room′ (fault f) v′ = v′ ≡ fault f
 TextFollows token-room′ tree-room′ (full-tokens t) v′ =
     (ts : List (List ℕ)) × (w : Verdict) × ((length ts ≡ t) × (v′ ≡ tokens-fitted token-room′ ts w))
 TextFollows token-room′ tree-room′ (judgement ts v) v′ = (w : Verdict) × ((v′ ≡ tokens-fitted token-room′ ts w) × Follows tree-room′ v w)
@@ -69,7 +69,7 @@ TextFollows token-room′ tree-room′ (judgement ts v) v′ = (w : Verdict) × 
 pub text-verdict-follows : (setting setting′ token-room token-room′ tree-room tree-room′ : ℕ) (sense : TextSense) → setting ≤ setting′ →
     TextFollows token-room′ tree-room′ (text-verdict setting token-room tree-room sense) (text-verdict setting′ token-room′ tree-room′ sense)
 unfolding text-verdict TextFollows
-text-verdict-follows setting setting′ token-room token-room′ tree-room tree-room′ (faulty number place) h = refl
+text-verdict-follows setting setting′ token-room token-room′ tree-room tree-room′ (faulty f) h = refl
 text-verdict-follows setting setting′ token-room token-room′ tree-room tree-room′ (read ts sense) h = go (ltb token-room (length ts))
   where
     v : Verdict

@@ -6,6 +6,7 @@ use lib.ListN.{length, getD}
 use Rattle.tables.specs.Tables.{front, zeroed, token-width, node-width}
 use Rattle.replies.specs.declared.Reply.{Reply}
 use Rattle.replies.specs.Replies as replies
+use Rattle.replies.specs.Faults.{row}
 use Rattle.meaning.specs.Sense.{first}
 use Rattle.meaning.specs.Verdict.{Verdict, grammar, deep, full, accepted, TextVerdict, fault, full-tokens, judgement}
 
@@ -30,7 +31,7 @@ tree-after (accepted rs) table = front node-width rs table
 -- the whole reader's reply
 unfoldable pub text-reply : (text : ℕ) → TextVerdict → Reply
 unfolding tree-reply
-text-reply text (fault number place) = replies.fault number place
+text-reply text (fault f) = row f
 text-reply text (full-tokens t) = replies.more-tokens text t
 text-reply text (judgement ts v) = tree-reply text ts v
 
@@ -43,13 +44,13 @@ tokens-kept (accepted rs) ts table = front token-width ts table
 
 unfoldable pub text-tokens-after : TextVerdict → List ℕ → List ℕ
 unfolding tokens-kept
-text-tokens-after (fault number place) table = zeroed table
+text-tokens-after (fault f) table = zeroed table
 text-tokens-after (full-tokens t) table = zeroed table
 text-tokens-after (judgement ts v) table = tokens-kept v ts table
 
 -- and its tree table
 unfoldable pub text-tree-after : TextVerdict → List ℕ → List ℕ
 unfolding tree-after
-text-tree-after (fault number place) table = zeroed table
+text-tree-after (fault f) table = zeroed table
 text-tree-after (full-tokens t) table = zeroed table
 text-tree-after (judgement ts v) table = tree-after v table

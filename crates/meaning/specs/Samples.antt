@@ -29,7 +29,7 @@ row text setting token-room tree-room said tree =
 
 -- the tree records that a verdict accepts
 unfoldable pub tree-of : TextVerdict → List (List ℕ)
-tree-of (fault number place) = []
+tree-of (fault f) = []
 tree-of (full-tokens t) = []
 tree-of (judgement ts (grammar q)) = []
 tree-of (judgement ts (deep p)) = []
@@ -69,7 +69,7 @@ starred =
     row "exception A { };" 64 ample ample (reply 0 16 5 3) (node 86 0 4 1 ∷ node 2 0 5 2 ∷ node 1 0 5 3 ∷ []) ∷
     row "enum E { A, };" 64 ample ample (reply 7 12 7 0) [] ∷
     row "interface A : B;" 64 ample ample (reply 7 15 5 0) [] ∷
-    row "interface Factory { };" 64 ample ample (reply 5 10 0 0) [] ∷
+    row "interface Factory { };" 64 ample ample (reply 5 10 33 0) [] ∷
     row "interface _factory { };" 64 ample ample (reply 0 23 5 5)
     (node 7 0 2 1 ∷ node 8 3 3 1 ∷ node 5 0 4 3 ∷ node 2 0 5 4 ∷ node 1 0 5 5 ∷ []) ∷
     row "const long A = ((1));" 1 ample ample (reply 8 16 10 0) [] ∷

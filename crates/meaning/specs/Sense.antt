@@ -9,6 +9,7 @@ use Rattle.grammar.specs.Rule.{Edition}
 use Rattle.grammar.specs.Derivation.{Derivation}
 use Rattle.grammar.specs.Record.{TreeRecord, tree-record, records}
 use Rattle.grammar.specs.Blame.{Blame}
+use Rattle.replies.specs.Faults.{Fault}
 use Rattle.tables.specs.Tables.{token-first}
 use Rattle.text.specs.Tokens.{tokens-of, tokens, fault}
 
@@ -19,7 +20,7 @@ pub data Sense : Type 0 where
 
 -- what a text is: faulty, or its token records with their sense
 pub data TextSense : Type 0 where
-  faulty : (number place : ℕ) → TextSense
+  faulty : Fault → TextSense
   read : (records : List (List ℕ)) → Sense → TextSense
 
 -- the kind of a token record, which stands first in it, and its first byte
@@ -45,6 +46,6 @@ pub data Means (E : Edition) (kinds : List ℕ) : Sense → Type 0 where
 
 -- "A text has its first fault of 2 to 5 in the order above, or else its tokens, t of them."
 pub data TextMeans (E : Edition) (text : List ℕ) : TextSense → Type 0 where
-  means-fault : {number place : ℕ} → tokens-of text ≡ fault number place → TextMeans E text (faulty number place)
+  means-fault : {f : Fault} → tokens-of text ≡ fault f → TextMeans E text (faulty f)
   means-tokens : {ts : List (List ℕ)} {sense : Sense} → tokens-of text ≡ tokens ts → Means E (map kind ts) sense →
       TextMeans E text (read ts sense)

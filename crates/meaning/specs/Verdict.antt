@@ -6,6 +6,7 @@ use mathlib.Core.List.{List, map}
 use lib.Dec.{ltb}
 use lib.ListN.{length}
 use Rattle.grammar.specs.Derivation.{kind-at}
+use Rattle.replies.specs.Faults.{Fault}
 use Rattle.meaning.specs.Deep.{first-too-deep}
 use Rattle.meaning.specs.Sense.{Sense, blamed, derived, TextSense, faulty, read, kind}
 
@@ -34,7 +35,7 @@ verdict setting room kinds sense =
 
 -- what the whole reader finds: a fault, the tokens needed, or the tree part's verdict on the tokens
 pub data TextVerdict : Type 0 where
-  fault : (number place : ℕ) → TextVerdict
+  fault : Fault → TextVerdict
   full-tokens : (needed : ℕ) → TextVerdict
   judgement : (records : List (List ℕ)) → Verdict → TextVerdict
 
@@ -45,5 +46,5 @@ tokens-fitted room ts v = cond (ltb room (length ts)) (full-tokens (length ts)) 
 
 unfoldable pub text-verdict : (setting token-room tree-room : ℕ) → TextSense → TextVerdict
 unfolding verdict
-text-verdict setting token-room tree-room (faulty number place) = fault number place
+text-verdict setting token-room tree-room (faulty f) = fault f
 text-verdict setting token-room tree-room (read ts sense) = tokens-fitted token-room ts (verdict setting tree-room (map kind ts) sense)

@@ -1,4 +1,4 @@
--- Demand 2 of anything that answers as promised: what an acceptance and a grammar refusal say, and when they are given.
+-- Demand 2 of anything that answers as promised: what an acceptance, a fault and a grammar refusal say, and when they are given.
 -- By the cases of the verdict for the one meaning of the tokens, and of the text.
 use Prim.Native.Nat.{ℕ, _≤_}
 use mathlib.Core.Path.{_≡_, refl, ap, sym, subst, _∙_}
@@ -14,11 +14,13 @@ use Rattle.grammar.specs.Rule.{Edition}
 use Rattle.limits.specs.Limits.{good-call}
 use Rattle.replies.specs.declared.Reply.{Reply}
 use Rattle.replies.specs.Replies as rows
+use Rattle.replies.specs.Faults.{Fault, row}
 use Rattle.tables.specs.Tables.{capacity, front, token-width, node-width}
+use Rattle.text.specs.Tokens as scanned
 use Rattle.text.specs.Tokens.{tokens, tokens-of}
 use Rattle.meaning.specs.Deep.{first-too-deep}
 use Rattle.meaning.specs.Sense as sense
-use Rattle.meaning.specs.Sense.{means-blame, means-tree, means-tokens, kind, tree-records}
+use Rattle.meaning.specs.Sense.{means-blame, means-tree, means-fault, means-tokens, kind, tree-records}
 use Rattle.meaning.specs.Verdict as verdict
 use Rattle.meaning.specs.Verdict.{Verdict, TextVerdict, fault, full-tokens, judgement, text-verdict}
 use Rattle.meaning.specs.Answer.{place, tree-reply, tree-after, text-reply, text-tokens-after, text-tree-after}
@@ -27,7 +29,7 @@ use Rattle.meaning.proofs.Deep.{first-after}
 use Rattle.meaning.proofs.Laws.{fault-range, room-judged, room-accepted, blame-given, records-given, tokens-stay}
 use Rattle.prediction.specs.validator.Check.{Checked}
 use Rattle.meaning.proofs.OneMeaning.{some-sense}
-use Rattle.promises.specs.Demands.{TreeAccepted, Accepted, TreeBlamed, Blamed}
+use Rattle.promises.specs.Demands.{TreeAccepted, Accepted, Faulted, TreeBlamed, Blamed}
 use Rattle.promises.proofs.Soundness.{SoundTree, Sound, tree-sound, found-sound, answers-found}
 
 -- What a verdict says.
@@ -63,7 +65,7 @@ module _ (E : Edition) (text table tree : List ℕ) (setting : ℕ) where
       text-reply (length text) v .number ≡ 0 →
       Accepted E text table tree setting (text-reply (length text) v) (text-tokens-after v table) (text-tree-after v tree)
   unfolding Sound text-reply text-tokens-after text-tree-after
-  acceptance-says (fault number at) s z = absurd (omega (arith, fault-range number at .0))
+  acceptance-says (fault f) s z = absurd (omega (arith, fault-range f .0))
   acceptance-says (full-tokens t) s z = absurd (omega arith)
   acceptance-says (judgement ts v) s z = record {
     list = ts;
@@ -73,10 +75,20 @@ module _ (E : Edition) (text table tree : List ℕ) (setting : ℕ) where
     tokens-written = tokens-stay (length text) ts table v z;
   }
 
+  fault-says : (v : TextVerdict) → Sound E text setting (capacity token-width table) (capacity node-width tree) v →
+      2 ≤ text-reply (length text) v .number → text-reply (length text) v .number ≤ 5 → Faulted text (text-reply (length text) v)
+  unfolding Sound text-reply tree-reply
+  fault-says (fault f) s l m = record { first-fault = f; found = s; said = refl }
+  fault-says (full-tokens t) s l m = absurd (omega arith)
+  fault-says (judgement ts (verdict.grammar q)) s l m = absurd (omega arith)
+  fault-says (judgement ts (verdict.deep p)) s l m = absurd (omega arith)
+  fault-says (judgement ts (verdict.full r)) s l m = absurd (omega arith)
+  fault-says (judgement ts (verdict.accepted rs)) s l m = absurd (omega arith)
+
   blame-says : (v : TextVerdict) → Sound E text setting (capacity token-width table) (capacity node-width tree) v →
       text-reply (length text) v .number ≡ 7 → Blamed E text table setting (text-reply (length text) v)
   unfolding Sound text-reply
-  blame-says (fault number at) s z = absurd (omega (arith, fault-range number at .1))
+  blame-says (fault f) s z = absurd (omega (arith, fault-range f .1))
   blame-says (full-tokens t) s z = absurd (omega arith)
   blame-says (judgement ts v) s z = record {
     list = ts;
@@ -110,6 +122,15 @@ module _ {E : Edition} (c : Checked E) (text : List ℕ) {table tree : List ℕ}
       let x = answers-found c text setting table tree a g in
       rw (x .0, x .1 .0, x .1 .1)
       (acceptance-says E text table tree setting _ (found-sound c text setting table tree) (sym (ap (λ (y : Reply). y .number) (x .0)) ∙ z))
+
+  pub fault-only : 2 ≤ r .number → r .number ≤ 5 → Faulted text r
+  fault-only l m =
+      let x = answers-found c text setting table tree a g .0 in
+      rw x (fault-says E text table tree setting _ (found-sound c text setting table tree) (rw x at l) (rw x at m))
+
+  pub fault-always : (f : Fault) → tokens-of text ≡ scanned.fault f → r ≡ row f
+  unfolding text-verdict text-reply
+  fault-always f e = a .inside g (sense.faulty f) (means-fault e) .0
 
   pub blamed-only : r .number ≡ 7 → Blamed E text table setting r
   blamed-only z =

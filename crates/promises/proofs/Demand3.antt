@@ -127,7 +127,7 @@ module _ (text tokens₁ tokens₂ tree₁ tree₂ : List ℕ) where
         Sound E text setting′ (capacity token-width tokens₂) (capacity node-width tree₂) v′ →
         TextFollows (capacity token-width tokens₂) (capacity node-width tree₂) v v′ → After v v′
     unfolding Sound SoundTree TextFollows Follows text-reply tree-reply Blames
-    kept (fault number at) v′ s s′ f = same-blame (fault number at) v′ f (inl (fault-range number at))
+    kept (fault x) v′ s s′ f = same-blame (fault x) v′ f (inl (fault-range x))
     kept (full-tokens t) v′ s s′ f = full-after (full-tokens t) v′ (inl refl)
     kept (judgement ts (verdict.full r)) v′ s s′ f = full-after (judgement ts (verdict.full r)) v′ (inr refl)
     kept (judgement ts (verdict.grammar q)) v′ s s′ (w, (e, f)) =
@@ -187,7 +187,7 @@ module _ (text : ℕ) (ts : List (List ℕ)) (room′ : ℕ) where
 tokens-again : (text c′ k′ : ℕ) (v v′ : TextVerdict) → TextFollows c′ k′ v v′ → text-reply text v .number ≡ 6 →
     Again (text-reply text v .tokens) c′ (text-reply text v) (text-reply text v′)
 unfolding TextFollows text-reply
-tokens-again text c′ k′ (fault number at) v′ f z = absurd (omega (arith, fault-range number at .1))
+tokens-again text c′ k′ (fault x) v′ f z = absurd (omega (arith, fault-range x .1))
 tokens-again text c′ k′ (judgement ts v) v′ f z = absurd (tree-number text ts v z)
 tokens-again text c′ k′ (full-tokens t) v′ (ts, w, (e, f)) z =
     go (ltb c′ (length ts)) f (ltb→lt c′ (length ts)) (nltb→le c′ (length ts))
@@ -208,7 +208,7 @@ module _ (E : Edition) (text : List ℕ) (setting c c′ k k′ : ℕ) (more-tok
   tree-again : (v v′ : TextVerdict) → Sound E text setting c k v → TextFollows c′ k′ v v′ → text-reply (length text) v .number ≡ 9 →
       Again (text-reply (length text) v .records) k′ (text-reply (length text) v) (text-reply (length text) v′)
   unfolding Sound TextFollows text-reply
-  tree-again (fault number at) v′ s f z = absurd (omega (arith, fault-range number at .1))
+  tree-again (fault x) v′ s f z = absurd (omega (arith, fault-range x .1))
   tree-again (full-tokens t) v′ s f z = absurd (omega arith)
   tree-again (judgement ts v) v′ s (w, (e, f)) z =
       rw (e ∙ room-judged c′ ts w (omega (arith, s .1 .0))) (records-again (length text) ts k′ v w f z)
@@ -216,7 +216,7 @@ module _ (E : Edition) (text : List ℕ) (setting c c′ k k′ : ℕ) (more-tok
   tree-enough : (v v′ : TextVerdict) → Sound E text setting c k v → TextFollows c′ k′ v v′ → text-reply (length text) v .number ≡ 9 →
       text-reply (length text) v .records ≤ k′ → text-reply (length text) v′ .number ≡ 0
   unfolding Sound TextFollows text-reply
-  tree-enough (fault number at) v′ s f z h = absurd (omega (arith, fault-range number at .1))
+  tree-enough (fault x) v′ s f z h = absurd (omega (arith, fault-range x .1))
   tree-enough (full-tokens t) v′ s f z h = absurd (omega arith)
   tree-enough (judgement ts v) v′ s (w, (e, f)) z h =
       rw (e ∙ room-judged c′ ts w (omega (arith, s .1 .0))) (records-enough (length text) ts k′ v w f z h)

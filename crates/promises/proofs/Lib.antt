@@ -1,5 +1,6 @@
 pub mod Editions
 pub mod Mixtures
+pub mod OtherCase
 pub mod Places
 pub mod Soundness
 pub mod Demand1

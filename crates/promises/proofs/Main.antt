@@ -4,6 +4,7 @@ use Prim.Native.Nat.{ℕ, suc, _≤_, _<_}
 use mathlib.Core.Path.{_≡_}
 use mathlib.Core.Bool.{true, false}
 use mathlib.Core.List.{List, map}
+use native.Mathlib.Omega.{arith}
 use lib.ListN.{length, getD}
 use Rattle.grammar.specs.Blame.{Begins, Blame}
 use Rattle.grammar.specs.Depth.{Within}
@@ -11,14 +12,16 @@ use Rattle.grammar.specs.Derivation.{kind-at, Derivation}
 use Rattle.grammar.specs.Forest.{Forest, leaves}
 use Rattle.grammar.specs.Meaning.{Meaning}
 use Rattle.grammar.specs.Rule.{Edition}
-use Rattle.kinds.specs.Kinds.{bytes, keywords, keyword}
+use Rattle.kinds.specs.Kinds.{bytes, keywords, nth-keyword, keyword}
 use Rattle.limits.specs.Limits.{good-call}
 use Rattle.replies.specs.declared.Reply.{Reply}
 use Rattle.replies.specs.Replies as rows
+use Rattle.replies.specs.Faults.{Fault, row}
 use Rattle.tables.specs.Tables.{capacity, token-width, node-width, zeroed}
 use Rattle.text.specs.Bytes.{at}
-use Rattle.text.specs.Tokens.{tokens, tokens-of}
+use Rattle.text.specs.Tokens.{tokens, fault, tokens-of}
 use Rattle.text.specs.Words.{lower, sorted}
+use Rattle.tokens.specs.Answer.{token-reply}
 use Rattle.words.specs.Search.{near-keywords, most-near, sorted-among, comparisons}
 use Rattle.words.proofs.Sorting as words
 use Rattle.meaning.specs.Sense.{Sense, Means, TextSense, TextMeans, kind, tree-records}
@@ -30,9 +33,10 @@ use Rattle.meaning.specs.Samples.{All, Holds, starred}
 use Rattle.meaning.proofs.OneMeaning.{some-text-sense, one-text-sense}
 use Rattle.meaning.proofs.Samples.{starred-hold}
 use Rattle.promises.specs.Editions.{Offered}
-use Rattle.promises.specs.Demands.{Mixed, TreeAccepted, Accepted, TreeBlamed, Blamed, Kept, Again, TreeKept}
+use Rattle.promises.specs.Demands.{Mixed, TreeAccepted, Accepted, Faulted, KeywordNamed, TreeBlamed, Blamed, Kept, Again, TreeKept}
 use Rattle.promises.proofs.Editions.{checked-of}
 use Rattle.promises.proofs.Mixtures as mixtures
+use Rattle.promises.proofs.OtherCase as other-case
 use Rattle.promises.proofs.Demand1 as demand-1
 use Rattle.promises.proofs.Demand2 as demand-2
 use Rattle.promises.proofs.Demand3 as demand-3
@@ -89,6 +93,17 @@ module _ {E : Edition} (offered : Offered E) where
       -- what is accepted splits into lexemes, is derived, and stands in the tables
       pub accepted-only : r .number ≡ 0 → Accepted E text table tree setting r table′ tree′
       accepted-only = demand-2.accepted-only (checked-of offered) text a good
+
+      -- a refusal from 2 to 5 is the row of the text's first fault, and a text that has one gets no other
+      pub fault-only : 2 ≤ r .number → r .number ≤ 5 → Faulted text r
+      fault-only = demand-2.fault-only (checked-of offered) text a good
+
+      pub fault-always : (f : Fault) → tokens-of text ≡ fault f → r ≡ row f
+      fault-always = demand-2.fault-always (checked-of offered) text a good
+
+      -- Request A3: reply 5 names the one keyword that the word at its place differs from in case alone
+      pub keyword-named : r .number ≡ 5 → KeywordNamed text r
+      keyword-named z = other-case.keyword-named text (fault-only (omega arith) (omega arith)) z
 
       -- what a grammar refusal names is the first token after which no continuation could be legal, or the end
       pub blamed-only : r .number ≡ 7 → Blamed E text table setting r
@@ -206,5 +221,10 @@ module _ (w : List ℕ) where
   pub few-comparisons : comparisons w (near-keywords w) ≤ most-near
   few-comparisons = words.few-comparisons w
 
-  pub no-comparison : ((k : ℕ) → k < length keywords → length w ≡ length (bytes (getD keywords k "")) → ⊥) → comparisons w (near-keywords w) ≡ 0
+  pub no-comparison : ((k : ℕ) → k < length keywords → length w ≡ length (nth-keyword k) → ⊥) → comparisons w (near-keywords w) ≡ 0
   no-comparison = words.no-comparison w
+
+-- Request A3, of the token part, which is proved to answer `token-reply`: reply 5 names the keyword, as in the whole reader.
+
+pub token-keyword-named : (text table : List ℕ) → token-reply text table .number ≡ 5 → KeywordNamed text (token-reply text table)
+token-keyword-named = other-case.token-keyword-named

@@ -1,5 +1,5 @@
--- What a verdict says of the text and of what was lent: a place of blame is one by the rules, with nothing too deep before it; accepted
--- records are a derivation's, and fit. By the cases of the meaning and of the tests that the verdict makes.
+-- What a verdict says of the text and of what was lent: a fault is the text's; a place of blame is one by the rules, with nothing too deep
+-- before it; accepted records are a derivation's, and fit. By the cases of the meaning and of the tests that the verdict makes.
 use Prim.Native.Nat.{ℕ, _≤_}
 use mathlib.Core.Path.{_≡_, refl, sym, subst}
 use mathlib.Core.Bool.{Bool, true, false, not, cond}
@@ -15,6 +15,7 @@ use Rattle.grammar.specs.Record.{records}
 use Rattle.limits.specs.Limits.{good-call}
 use Rattle.replies.specs.declared.Reply.{Reply}
 use Rattle.tables.specs.Tables.{Records, capacity, token-width, node-width}
+use Rattle.text.specs.Tokens as scanned
 use Rattle.text.specs.Tokens.{tokens, tokens-of}
 use Rattle.meaning.specs.Deep.{first-too-deep}
 use Rattle.meaning.specs.Sense.{Sense, Means, means-blame, means-tree, TextSense, TextMeans, means-fault, means-tokens, kind, tree-records}
@@ -43,7 +44,7 @@ SoundTree E setting room ts (verdict.accepted rs) = Tree E setting room ts rs
 
 unfoldable pub Sound : Edition → (text : List ℕ) → (setting token-room tree-room : ℕ) → TextVerdict → Type 0
 unfolding SoundTree
-Sound E text setting token-room tree-room (fault number place) = Unit
+Sound E text setting token-room tree-room (fault f) = tokens-of text ≡ scanned.fault f
 Sound E text setting token-room tree-room (full-tokens t) = Unit
 Sound E text setting token-room tree-room (judgement ts v) =
     (tokens-of text ≡ tokens ts) × ((length ts ≤ token-room) × SoundTree E setting tree-room ts v)
@@ -84,7 +85,7 @@ module _ {E : Edition} (setting room : ℕ) (ts : List (List ℕ)) where
 pub sound : {E : Edition} (text : List ℕ) (setting token-room tree-room : ℕ) (s : TextSense) → TextMeans E text s →
     Sound E text setting token-room tree-room (text-verdict setting token-room tree-room s)
 unfolding Sound text-verdict
-sound text setting token-room tree-room s (means-fault e) = tt
+sound text setting token-room tree-room s (means-fault e) = e
 sound {E} text setting token-room tree-room s (means-tokens {ts = ts} {sense = x} e m) =
     go (ltb token-room (length ts)) (nltb→le token-room (length ts))
   where

@@ -1,20 +1,21 @@
 -- Paper 01, "Try these stand-ins": readers that the words of the demands shut out. Each is shown from a promise alone, so that one that
 -- is weakened is noticed here. The accepted texts are starred samples; their trees differ in the first number.
-use Prim.Native.Nat.{ℕ, suc, _≤_}
-use mathlib.Core.Path.{_≡_, refl, ap, sym, _∙_}
-use mathlib.Core.Bool.{Bool, true, false, cond}
-use mathlib.Core.Logic.{inr}
+use Prim.Native.Nat.{ℕ, suc, _≤_, _<_}
+use mathlib.Core.Path.{_≡_, refl, ap, sym, subst, _∙_}
+use mathlib.Core.Bool.{Bool, true, false, false≢true, cond}
+use mathlib.Core.Logic.{inl, inr}
 use mathlib.Core.List.{List, _∷_, map}
 use native.Mathlib.Omega.{arith}
 use lib.Dec.{ltb}
-use lib.ListN.{length, getD}
-use Rattle.kinds.specs.Kinds.{bytes}
+use lib.ListN.{length, getD, drop}
+use Rattle.kinds.specs.Kinds.{bytes, keywords, nth-keyword, same}
 use Rattle.grammar.specs.Names.{rule}
 use Rattle.grammar.specs.Derivation.{kind-at}
 use Rattle.promises.specs.Editions.{edition-1}
 use Rattle.grammar.specs.Idl.{idl}
 use Rattle.replies.specs.declared.Reply.{Reply}
 use Rattle.tables.specs.Tables.{capacity, row, front, token-width, node-width}
+use Rattle.text.specs.Words.{CaseAlone, spelled}
 use Rattle.meaning.specs.Deep.{first-too-deep}
 use Rattle.meaning.specs.Sense as sense
 use Rattle.meaning.specs.Sense.{means-tree, means-tokens, kind, tree-records}
@@ -24,7 +25,7 @@ use Rattle.meaning.specs.Answer.{tree-reply, text-reply}
 use Rattle.meaning.specs.Calls.{Answered}
 use Rattle.meaning.specs.Samples.{Row, tree-of, Holds, All, more, starred}
 use Rattle.meaning.proofs.Samples.{starred-hold}
-use Rattle.promises.specs.Demands.{Accepted, Blames, Kept, Again}
+use Rattle.promises.specs.Demands.{Accepted, KeywordNamed, Blames, Kept, Again}
 use Rattle.promises.proofs.Main.{some-meaning}
 
 -- Demand 2.
@@ -114,7 +115,34 @@ module _ {r r′ : Reply} {tokens tokens′ tree tree′ : List ℕ} (k : Kept r
   unfolding Blames
   blame-stays z = let e = k .blame (inr z) in (ap (λ (x : Reply). x .number) e ∙ z, ap (λ (x : Reply). x .place) e)
 
+  -- one that names another keyword in a larger call
+  pub keyword-stays : r .number ≡ 5 → r′ .tokens ≡ r .tokens
+  unfolding Blames
+  keyword-stays z = ap (λ (x : Reply). x .tokens) (k .blame (inl (omega arith)))
+
   -- one that blames the very mark that it refused for its depth, or a place before it
   pub mark-blamed : r .number ≡ 8 → r′ .number ≡ 7 → r′ .place ≤ r .place → ⊥
   unfolding Blames
   mark-blamed z y h = omega (arith, k .depth z (inr y))
+
+-- Request A3.
+
+module _ {text : List ℕ} {r : Reply} (k : KeywordNamed text r) where
+  -- one that loses the kind on the way
+  pub kind-lost : r .tokens ≡ 0 → ⊥
+  kind-lost z = omega (arith, ap (λ (x : Reply). x .tokens) (k .said), k .differs .its-kind)
+
+  -- one that refuses a keyword in its own case
+  pub own-case : (n : ℕ) → n < length keywords → same (spelled (drop (r .place) text)) (nth-keyword n) ≡ true → ⊥
+  own-case n l e =
+      let p : r .place ≡ k .place = ap (λ (x : Reply). x .place) (k .said) in
+      false≢true (sym (k .differs .unlike n l) ∙ rw p at e)
+
+  -- one that names another keyword for the word
+  pub other-keyword : {r′ : Reply} → KeywordNamed text r′ → r′ .place ≡ r .place → r′ .tokens ≡ r .tokens
+  other-keyword k′ e =
+      let p : k′ .place ≡ k .place = sym (ap (λ (x : Reply). x .place) (k′ .said)) ∙ e ∙ ap (λ (x : Reply). x .place) (k .said) in
+      let c = k .differs in
+      let c′ = subst (λ (at : ℕ). CaseAlone (spelled (drop at text)) (k′ .kind)) p (k′ .differs) in
+      let n = c .alone (c′ .number) (c′ .in-list) (c′ .alike) in
+      omega (arith, ap (λ (x : Reply). x .tokens) (k .said), ap (λ (x : Reply). x .tokens) (k′ .said), c .its-kind, c′ .its-kind)

@@ -1,10 +1,10 @@
--- The demands in their words: what an acceptance and a grammar refusal say of the text, and how a second call follows from a first.
+-- The demands in their words: what an acceptance, a fault and a grammar refusal say of the text, and how a second call follows from a first.
 -- Assumes nothing: these are definitions. That each call meets them is shown in proofs/; proofs/Main.antt is the page to read.
 use Prim.Native.Nat.{ℕ, _*_, _≤_, _<_}
 use mathlib.Core.Path.{_≡_}
 use mathlib.Core.Logic.{_⊎_}
 use mathlib.Core.List.{List, map}
-use lib.ListN.{length, take}
+use lib.ListN.{length, take, drop}
 use Rattle.grammar.specs.Blame.{Blame}
 use Rattle.grammar.specs.Depth.{Within}
 use Rattle.grammar.specs.Derivation.{kind-at, Derivation}
@@ -13,8 +13,10 @@ use Rattle.grammar.specs.Rule.{Edition}
 use Rattle.kinds.specs.Kinds as kinds
 use Rattle.replies.specs.declared.Reply.{Reply}
 use Rattle.replies.specs.Replies as rows
+use Rattle.replies.specs.Faults.{Fault, row}
 use Rattle.tables.specs.Tables.{capacity, front, token-width, node-width}
-use Rattle.text.specs.Tokens.{tokens, tokens-of}
+use Rattle.text.specs.Tokens.{tokens, fault, tokens-of}
+use Rattle.text.specs.Words.{CaseAlone, spelled}
 use Rattle.meaning.specs.Sense.{kind, tree-records}
 use Rattle.meaning.specs.Verdict as verdict
 use Rattle.meaning.specs.Verdict.{Verdict}
@@ -42,6 +44,19 @@ pub record Accepted (E : Edition) (text table tree : List ℕ) (setting : ℕ) (
   pub tokens-fit : length list ≤ capacity token-width table
   pub tree-part : TreeAccepted E (length text) list tree setting r tree′
   pub tokens-written : table′ ≡ front token-width list table
+
+-- Demand 2, a refusal of a text that does not split into lexemes: the row of its first fault
+pub record Faulted (text : List ℕ) (r : Reply) : Type 0 where
+  pub first-fault : Fault
+  pub found : tokens-of text ≡ fault first-fault
+  pub said : r ≡ row first-fault
+
+-- Request A3, reply 5: the word at the place differs in case alone from the keyword of this kind
+pub record KeywordNamed (text : List ℕ) (r : Reply) : Type 0 where
+  pub place : ℕ
+  pub kind : ℕ
+  pub said : r ≡ rows.other-case place kind
+  pub differs : CaseAlone (spelled (drop place text)) kind
 
 -- Demand 2, a grammar refusal of a list of tokens: it has this place of blame, and no opening mark before it exceeds the depth setting; the
 -- reply names the place and the tokens

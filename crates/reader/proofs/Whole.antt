@@ -170,7 +170,7 @@ module _ (setting : ℕ) (text table tree : List ℕ) {r : Bounded} {l : Limits}
 
       go : (found : Tokens) → tokens-of text ≡ found → reply ≡ answer (length text) table found → tokens′ ≡ filled table found → Accepted reply tokens′
       go (tokens ts) e c d = roomy ts e (room table ts) refl c d
-      go (fault number place) e c d = let w = ap (λ (r : Reply). r .number) c in absurd (omega (arith, fault-range number place .0))
+      go (fault f) e c d = let w = ap (λ (r : Reply). r .number) c in absurd (omega (arith, fault-range f .0))
 
   module _ {E : Edition} {found : Reply} {middle : List ℕ} (a : found ≡ token-reply text table) (b : middle ≡ token-table text table)
       (z : found .number ≡ rows.accepted-number) {count : ℕ} (k : count ≡ found .tokens) {reply : Reply} {tree′ : List ℕ}

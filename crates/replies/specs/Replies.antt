@@ -1,8 +1,6 @@
--- The table of paper 01, "What the reader says": a definition for each row, in the table's order and with its words.
--- A reply is a number, a place in bytes, a token count and a record count. Assumes nothing: these are definitions.
-use mathlib.Core.Bool.{cond}
+-- The table of paper 01, "What the reader says", as request A3 amends its row 5: a definition for each row, in the table's order and with its words.
+-- A reply is a number, a place in bytes, a token count (in row 5 a keyword's kind) and a record count. Assumes nothing: these are definitions.
 use Prim.Native.Nat.{ℕ}
-use lib.Dec.{eqb}
 use Rattle.replies.specs.declared.Reply.{Reply}
 
 -- a reply is four numbers
@@ -36,9 +34,9 @@ left-open place = reply 3 place 0 0
 abbrev pub bad-literal : (place : ℕ) → Reply
 bad-literal place = reply 4 place 0 0
 
--- 5: keyword in another case; its start
-abbrev pub other-case : (place : ℕ) → Reply
-other-case place = reply 5 place 0 0
+-- 5: keyword in another case; its start, and by request A3 the keyword's kind
+abbrev pub other-case : (place kind : ℕ) → Reply
+other-case place kind = reply 5 place kind 0
 
 -- 6: more tokens than records; the text length, tokens needed
 abbrev pub more-tokens : (text tokens : ℕ) → Reply
@@ -55,10 +53,3 @@ too-deep place tokens = reply 8 place tokens 0
 -- 9: more tree records than room; the text length, tokens, records needed
 abbrev pub more-records : (text tokens records : ℕ) → Reply
 more-records text tokens records = reply 9 text tokens records
-
--- 2 to 5, by the number of a text's first fault
-abbrev pub fault : (number place : ℕ) → Reply
-fault number place =
-    cond (eqb number 2) (no-lexeme place)
-    (cond (eqb number 3) (left-open place)
-    (cond (eqb number 4) (bad-literal place) (other-case place)))

@@ -1,4 +1,4 @@
-// What the reader says: a number, a place in bytes, a token count and a record count.
+// What the reader says: a number, a place in bytes, a token count (in row 5 a keyword's kind) and a record count.
 //
 // Each row of the paper's table has its constructor.
 ghost use mathlib.Core.Path.{_≡_};
@@ -60,10 +60,10 @@ impl Reply {
         Reply::of(4, place, 0, 0)
     }
 
-    pub fn other_case(place: u32) -> Reply
-        ensures { λ r. ⌜ r ≡ rows.other-case place ⌝ }
+    pub fn other_case(place: u32, kind: u32) -> Reply
+        ensures { λ r. ⌜ r ≡ rows.other-case place kind ⌝ }
     {
-        Reply::of(5, place, 0, 0)
+        Reply::of(5, place, kind, 0)
     }
 
     pub fn more_tokens(text: u32, tokens: u32) -> Reply

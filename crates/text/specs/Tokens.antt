@@ -3,6 +3,7 @@
 use mathlib.Core.List.{List, [], _∷_}
 use Prim.Native.Nat.{ℕ, zero, suc, _+_}
 use lib.ListN.{drop, length}
+use Rattle.replies.specs.Faults.{Fault, no-lexeme, left-open, bad-literal, other-case}
 use Rattle.text.specs.Lexemes.{lexeme}
 use Rattle.text.specs.declared.Lexeme.{Lexeme}
 use Rattle.text.specs.declared.Lexeme.the-variants.{Blank, Token, NoLexeme, Open, BadLiteral, OtherCase}
@@ -11,25 +12,25 @@ use Rattle.text.specs.declared.Lexeme.the-variants.{Blank, Token, NoLexe
 abbrev pub token : ℕ → ℕ → ℕ → List ℕ
 token kind first size = kind ∷ first ∷ size ∷ []
 
--- what a text is as tokens: the records of its tokens, or the number and the place of its first fault
+-- what a text is as tokens: the records of its tokens, or its first fault
 pub data Tokens : Type 0 where
   tokens : List (List ℕ) → Tokens
-  fault : ℕ → ℕ → Tokens
+  fault : Fault → Tokens
 
 -- a token in front of what follows
 unfoldable pub before : List ℕ → Tokens → Tokens
 before t (tokens ts) = tokens (t ∷ ts)
-before t (fault number place) = fault number place
+before t (fault f) = fault f
 
--- what a lexeme at a place is, with what follows it; a fault has the number of its reply
+-- what a lexeme at a place is, with what follows it
 unfoldable pub then : Lexeme → ℕ → (ℕ → Tokens) → Tokens
 unfolding before
 then (Blank n) place rest = rest n
 then (Token kind n) place rest = before (token kind place n) (rest n)
-then NoLexeme place rest = fault 2 place
-then Open place rest = fault 3 place
-then BadLiteral place rest = fault 4 place
-then (OtherCase kind) place rest = fault 5 place
+then NoLexeme place rest = fault (no-lexeme place)
+then Open place rest = fault (left-open place)
+then BadLiteral place rest = fault (bad-literal place)
+then (OtherCase kind) place rest = fault (other-case place kind)
 
 -- the rest of a text from a place on, in as many lexemes at most
 unfoldable pub tokens-in : ℕ → ℕ → List ℕ → Tokens

@@ -30,7 +30,7 @@ counted (all-tokens list) = record { list = list; all = refl; stored = refl; cou
 -- the first fault is the answer, and the table is to be zeroed
 faulted : {whole : Tokens} {table after : List ℕ} {reply : Reply} (n : ℕ) → Scanned whole table after (found.Fault reply) →
     (reply ≡ answer n table whole) × (zeroed table ≡ filled table whole)
-faulted n (first-fault number place) = (refl, refl)
+faulted n (first-fault f) = (refl, refl)
 
 -- the places and counts of a good text fit 32 bits
 pub short : (n : ℕ) → good-text n ≡ true → n < number-end

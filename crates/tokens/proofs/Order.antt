@@ -9,10 +9,11 @@ use lib.ListN.{length, drop, length-drop}
 use Rattle.tables.specs.Tables.{token-width, Records, none as no-records, more as more-records}
 use Rattle.text.specs.Lexemes.{lexeme}
 use Rattle.text.specs.Tokens.{Tokens, tokens, token, before, then, tokens-in, tokens-of}
+use Rattle.text.specs.Words.{CaseAlone, spelled}
 use Rattle.text.specs.declared.Lexeme.{Lexeme}
 use Rattle.text.specs.declared.Lexeme.the-variants.{Blank, Token, NoLexeme, Open, BadLiteral, OtherCase}
 use Rattle.tokens.specs.Order.{InOrder, none, next, Ordered, ordered, faulty}
-use Rattle.text.proofs.Sizes.{Sized}
+use Rattle.text.proofs.Sizes.{SizedOr}
 use Rattle.lexemes.proofs.Sizes.{lexeme-sized}
 
 sooner : {from start to : ℕ} {ts : Tokens} → from ≤ start → Ordered start to ts → Ordered from to ts
@@ -31,7 +32,7 @@ module _ (place : ℕ) (bs : List ℕ) (rest : ℕ → Tokens) (more : (n : ℕ)
       let e : place + n + length (drop n bs) ≡ place + length bs = omega (arith, length-drop n bs) in
       subst (λ (to : ℕ). Ordered (place + n) to (rest n)) e (more n)
 
-  one-lexeme : (l : Lexeme) → Sized (length bs) l → Ordered place (place + length bs) (then l place rest)
+  one-lexeme : (l : Lexeme) → SizedOr (CaseAlone (spelled bs)) (length bs) l → Ordered place (place + length bs) (then l place rest)
   unfolding then
   one-lexeme (Blank n) w = sooner (omega arith) (after n (w .1))
   one-lexeme (Token kind n) w = one-more kind (w .0) (after n (w .1))

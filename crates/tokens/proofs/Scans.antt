@@ -13,13 +13,14 @@ use Rattle.tables.proofs.Laws.{store-more, length-store}
 use Rattle.text.specs.Bytes.{run, space, at as byte}
 use Rattle.text.specs.Lexemes.{lexeme}
 use Rattle.text.specs.Tokens.{Tokens, tokens, fault, token, before, then, tokens-in, tokens-of}
+use Rattle.text.specs.Words.{CaseAlone, spelled}
 use Rattle.text.specs.declared.Lexeme.{Lexeme}
 use Rattle.text.specs.declared.Lexeme.the-variants.{Blank, Token}
 use Rattle.replies.specs.declared.Reply.{Reply}
-use Rattle.replies.specs.Replies as rows
+use Rattle.replies.specs.Faults.{Fault, row}
 use Rattle.tokens.specs.Answer.{Scanned, all-tokens, first-fault}
 use Rattle.tokens.specs.declared.Found.the-variants as found
-use Rattle.text.proofs.Sizes.{Sized}
+use Rattle.text.proofs.Sizes.{SizedOr}
 use Rattle.lexemes.proofs.Sizes.{lexeme-sized}
 use Rattle.lexemes.proofs.Sorting.{lexeme-space}
 
@@ -33,10 +34,10 @@ unfolding after
 after-more [] t rest = refl
 after-more (x ∷ ts) t rest = ap (before x) (after-more ts t rest)
 
-after-fault : (ts : List (List ℕ)) (number place : ℕ) → after ts (fault number place) ≡ fault number place
+after-fault : (ts : List (List ℕ)) (f : Fault) → after ts (fault f) ≡ fault f
 unfolding after before
-after-fault [] number place = refl
-after-fault (x ∷ ts) number place = ap (before x) (after-fault ts number place)
+after-fault [] f = refl
+after-fault (x ∷ ts) f = ap (before x) (after-fault ts f)
 
 after-none : (ts : List (List ℕ)) → after ts (tokens []) ≡ tokens ts
 unfolding after before
@@ -96,7 +97,7 @@ module _ (text table₀ : List ℕ) where
         ∙ rw (sym e, same)
 
     -- it lies in the text
-    pub next-sized : {l : Lexeme} → l ≡ lexeme (drop at text) → Sized (length text - at) l
+    pub next-sized : {l : Lexeme} → l ≡ lexeme (drop at text) → SizedOr (CaseAlone (spelled (drop at text))) (length text - at) l
     next-sized {l} e = rw (e, ← length-drop at text) (lexeme-sized (drop at text) (omega (arith, length-drop at text)))
 
     pub reading-blank : {k : ℕ} → Blank k ≡ lexeme (drop at text) → Reading text table₀ table (at + k) n
@@ -132,11 +133,11 @@ module _ (text table₀ : List ℕ) where
         }
 
     -- a fault decides what the text is
-    pub reading-fault : {l : Lexeme} {reply : Reply} {after : List ℕ} (number : ℕ) → ((rest : ℕ → Tokens) → then l at rest ≡ fault number at) →
-        l ≡ lexeme (drop at text) → reply ≡ rows.fault number at → Scanned (tokens-of text) table₀ after (found.Fault reply)
-    reading-fault number f e d =
-        let whole : tokens-of text ≡ fault number at = next e ∙ ap (after (r .passed)) (f _) ∙ after-fault (r .passed) number at in
-        rw (whole, d) (first-fault number at)
+    pub reading-fault : {l : Lexeme} {reply : Reply} {after : List ℕ} (f : Fault) → ((rest : ℕ → Tokens) → then l at rest ≡ fault f) →
+        l ≡ lexeme (drop at text) → reply ≡ row f → Scanned (tokens-of text) table₀ after (found.Fault reply)
+    reading-fault f here e d =
+        let whole : tokens-of text ≡ fault f = next e ∙ ap (after (r .passed)) (here _) ∙ after-fault (r .passed) f in
+        rw (whole, d) (first-fault f)
 
   -- white space is passed at once
   pub reading-space : {table : List ℕ} {at n : ℕ} → Reading text table₀ table at n →

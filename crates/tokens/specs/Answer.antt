@@ -8,6 +8,7 @@ use lib.ListN.{length}
 use Rattle.limits.specs.Limits.{good-text}
 use Rattle.replies.specs.declared.Reply.{Reply}
 use Rattle.replies.specs.Replies as rows
+use Rattle.replies.specs.Faults.{Fault, row}
 use Rattle.tables.specs.Tables.{token-width, capacity, store, front, zeroed}
 use Rattle.text.specs.Tokens.{Tokens, tokens, fault, tokens-of}
 use Rattle.tokens.specs.declared.Found.{Found}
@@ -20,12 +21,12 @@ room table ts = leb (length ts) (capacity token-width table)
 -- the reply to a good call with a text of n bytes
 abbrev pub answer : (n : ℕ) → List ℕ → Tokens → Reply
 answer n table (tokens ts) = cond (room table ts) (rows.accepted n (length ts) 0) (rows.more-tokens n (length ts))
-answer n table (fault number place) = rows.fault number place
+answer n table (fault f) = row f
 
 -- the table after a good call: the records at the front and the numbers after them as they were, or zeros
 abbrev pub filled : List ℕ → Tokens → List ℕ
 filled table (tokens ts) = cond (room table ts) (front token-width ts table) (zeroed table)
-filled table (fault number place) = zeroed table
+filled table (fault f) = zeroed table
 
 -- the reply to any call
 abbrev pub token-reply : (text table : List ℕ) → Reply
@@ -38,5 +39,4 @@ token-table text table = cond (good-text (length text)) (filled table (tokens-of
 -- reading the whole text finds its tokens, and leaves as many of their records as fit in the table; or it finds the first fault
 pub data Scanned : Tokens → (table after : List ℕ) → Found → Type 0 where
   all-tokens : {table : List ℕ} (ts : List (List ℕ)) → Scanned (tokens ts) table (store token-width table 0 ts) (found.Tokens (length ts))
-  first-fault : {table after : List ℕ} (number place : ℕ) →
-      Scanned (fault number place) table after (found.Fault (rows.fault number place))
+  first-fault : {table after : List ℕ} (f : Fault) → Scanned (fault f) table after (found.Fault (row f))

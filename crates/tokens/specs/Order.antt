@@ -2,6 +2,7 @@
 -- Assumes nothing: a definition.
 use mathlib.Core.List.{List, [], _∷_}
 use Prim.Native.Nat.{ℕ, _+_, _≤_, _<_}
+use Rattle.replies.specs.Faults.{Fault}
 use Rattle.text.specs.Tokens.{Tokens, tokens, fault, token}
 
 -- from a byte on, and before another
@@ -13,4 +14,4 @@ pub data InOrder : (from to : ℕ) → List (List ℕ) → Type 0 where
 -- the tokens of a text, where it has no fault
 pub data Ordered (from to : ℕ) : Tokens → Type 0 where
   ordered : {ts : List (List ℕ)} → InOrder from to ts → Ordered from to (tokens ts)
-  faulty : {number place : ℕ} → Ordered from to (fault number place)
+  faulty : {f : Fault} → Ordered from to (fault f)

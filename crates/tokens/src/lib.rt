@@ -68,7 +68,7 @@ fn scan(text: &[u8], tokens: &mut [u32]) -> Found
             Lexeme::NoLexeme => return Found::Fault(Reply::no_lexeme(at as u32)),
             Lexeme::Open => return Found::Fault(Reply::left_open(at as u32)),
             Lexeme::BadLiteral => return Found::Fault(Reply::bad_literal(at as u32)),
-            Lexeme::OtherCase(_) => return Found::Fault(Reply::other_case(at as u32)),
+            Lexeme::OtherCase(kind) => return Found::Fault(Reply::other_case(at as u32, kind)),
         }
     }
     Found::Tokens(count)

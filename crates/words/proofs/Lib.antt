@@ -5,4 +5,5 @@ pub mod Filter
 pub mod Rules
 pub mod Sorting
 pub mod Searching
+pub mod OtherCase
 pub mod Sizes

@@ -1,4 +1,4 @@
--- The rules of the keyword table, each by one test that antt computes: kinds, keywords, spellings, next rows, index, at most three near, no two alike.
+-- The rules of the keyword table, each by one test that antt computes: numbers, kinds, keywords, spellings, next rows, index, few near, no two alike.
 -- A law of intervals turns the test into the rule at each row. Assumes nothing.
 use mathlib.Core.Path.{_≡_, refl, ap, sym}
 use mathlib.Core.Bool.{Bool, true, false, _&&_, _||_}
@@ -10,7 +10,7 @@ use lib.Dec.{T, eqb, leb, ltb, eqb→eq, leb→le, ltb→lt}
 use lib.ListN.{length, getD, take, drop}
 use mir.Syntax.{w64}
 use mir.Val.{Fits}
-use Rattle.kinds.specs.Kinds.{bytes, keywords, keyword, same}
+use Rattle.kinds.specs.Kinds.{first-keyword, keywords, nth-keyword, keyword, same}
 use Rattle.text.specs.Bytes.{at, from}
 use Rattle.text.specs.Words.{lower, same-but-case, keyword-but-case}
 use Rattle.text.proofs.Ranges.{agree, agreed, and-left, and-right, every, every-at, or-else, within}
@@ -56,6 +56,14 @@ row-words = refl
 at-row : (test : ℕ → Bool) → T (every test 0 row-count) → {i : ℕ} → i < row-count → T (test i)
 at-row test t h = every-at test 0 row-count t (omega arith) h
 
+-- a keyword is found, case aside, at its own number
+own-numbers : T (every (λ k. eqb (keyword-but-case (nth-keyword k)) (first-keyword + k)) 0 row-count)
+unfolding keyword-but-case same-but-case
+own-numbers = tt
+
+pub own-number : {k : ℕ} → k < row-count → keyword-but-case (nth-keyword k) ≡ first-keyword + k
+own-number h = eqb→eq _ _ (at-row (λ k. eqb (keyword-but-case (nth-keyword k)) (first-keyword + k)) own-numbers h)
+
 -- a row holds the kind of its spelling,
 kinds-right : T (every (λ i. eqb (getD table (i * row-size + kind-place) 0) (keyword (spelling i))) 0 row-count)
 unfolding table spelling by-edition keyword
@@ -80,10 +88,6 @@ some-kinds = tt
 pub some-kind : {i : ℕ} → i < row-count → 0 < keyword (spelling i)
 some-kind h = ltb→lt _ _ (at-row (λ i. ltb 0 (keyword (spelling i))) some-kinds h)
 
--- each keyword has a row, and each row a keyword
-abbrev word-at : ℕ → List ℕ
-word-at k = bytes (getD keywords k "")
-
 -- a word that a list of as many words as there are rows has, by its number there
 pub record Listed (list : ℕ → List ℕ) (w : List ℕ) : Type 0 where
   pub number : ℕ
@@ -105,19 +109,21 @@ listed list vs w t =
       spelled = same-equal w (list n) (sym (agreed true (same w (list n)) (and-right (ltb n row-count) (same w (list n)) t)));
     }
 
-rows-right : T (every (λ k. lists spelling by-edition (word-at k)) 0 row-count)
+-- each keyword has a row,
+rows-right : T (every (λ k. lists spelling by-edition (nth-keyword k)) 0 row-count)
 unfolding by-edition spelling first-from
 rows-right = tt
 
-pub row-at : {k : ℕ} → k < row-count → Listed spelling (word-at k)
-row-at {k} h = listed spelling by-edition (word-at k) (at-row (λ j. lists spelling by-edition (word-at j)) rows-right h)
+pub row-at : {k : ℕ} → k < row-count → Listed spelling (nth-keyword k)
+row-at {k} h = listed spelling by-edition (nth-keyword k) (at-row (λ j. lists spelling by-edition (nth-keyword j)) rows-right h)
 
-keywords-right : T (every (λ i. lists word-at keywords (spelling i)) 0 row-count)
+-- and each row a keyword
+keywords-right : T (every (λ i. lists nth-keyword keywords (spelling i)) 0 row-count)
 unfolding by-edition spelling first-from
 keywords-right = tt
 
-pub keyword-at : {i : ℕ} → i < row-count → Listed word-at (spelling i)
-keyword-at {i} h = listed word-at keywords (spelling i) (at-row (λ j. lists word-at keywords (spelling j)) keywords-right h)
+pub keyword-at : {i : ℕ} → i < row-count → Listed nth-keyword (spelling i)
+keyword-at {i} h = listed nth-keyword keywords (spelling i) (at-row (λ j. lists nth-keyword keywords (spelling j)) keywords-right h)
 
 -- a row starts with its spelling
 abbrev spelled-right : ℕ → Bool

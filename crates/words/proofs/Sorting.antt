@@ -12,7 +12,7 @@ use borrow.Author.Tests.{ltb-true, lt-ltb, eqb-true}
 use lib.Dec.{ltb}
 use lib.ListN.{length, getD, drop, drop-of-length-le}
 use lib.Seq.{drop-cons}
-use Rattle.kinds.specs.Kinds.{bytes, keywords, first-keyword, keyword, search-from, same, identifier}
+use Rattle.kinds.specs.Kinds.{bytes, keywords, first-keyword, nth-keyword, keyword, search-from, same, identifier}
 use Rattle.text.specs.Bytes.{at}
 use Rattle.text.specs.Words.{lower, same-but-case, keyword-but-case, sorted}
 use Rattle.text.specs.declared.Lexeme.the-variants.{Token, OtherCase}
@@ -92,7 +92,7 @@ module _ (w : List ℕ) where
       (ltb-true 0 _ k, (near-length (lower (at w 0)) (length w) _ e, near-letter (lower (at w 0)) (length w) _ e))
 
   -- where no keyword has its length there are none
-  no-near : ((k : ℕ) → k < length keywords → length w ≡ length (bytes (getD keywords k "")) → ⊥) → near-keywords w ≡ []
+  no-near : ((k : ℕ) → k < length keywords → length w ≡ length (nth-keyword k) → ⊥) → near-keywords w ≡ []
   unfolding near-keywords spelling
   no-near other = filter-none (near-to w) by-edition (λ j h. not-near-row j (omega (arith, h, row-words)))
     where
@@ -109,7 +109,7 @@ module _ (w : List ℕ) where
   pub few-comparisons : comparisons w (near-keywords w) ≤ most-near
   few-comparisons = omega (arith, few, within (near-keywords w))
 
-  pub no-comparison : ((k : ℕ) → k < length keywords → length w ≡ length (bytes (getD keywords k "")) → ⊥) → comparisons w (near-keywords w) ≡ 0
+  pub no-comparison : ((k : ℕ) → k < length keywords → length w ≡ length (nth-keyword k) → ⊥) → comparisons w (near-keywords w) ≡ 0
   no-comparison other = ap (comparisons w) (no-near other) ∙ none-compared
 
   not-near : (v : List ℕ) → near-to w v ≡ false → same-but-case w v ≡ false
@@ -134,6 +134,11 @@ module _ (w : List ℕ) where
   sorted-none none =
       rw (no-keyword same w (λ j h. not-same (spelling j) (none j h)), no-keyword same-but-case w none)
 
+  -- one that is a spelling, case aside, has its kind, case aside
+  pub case-kind : (v : List ℕ) → same-but-case w v ≡ true → keyword-but-case w ≡ keyword-but-case v
+  unfolding keyword-but-case
+  case-kind v f = search-like first-keyword same-but-case w v keywords (λ x. case-like w v x f)
+
   module _ {r : ℕ} (h : r < row-count) where
     -- one that is spelled as a row
     sorted-same : same w (spelling r) ≡ true → Token (keyword (spelling r)) (length w) ≡ sorted w (length w)
@@ -153,14 +158,10 @@ module _ (w : List ℕ) where
             let one : j ≡ r = eqb-true j r (distinct-at h l ∙ alike) in
             false≢true (sym e ∙ ap (λ (i : ℕ). same w (spelling i)) (sym one) ∙ s)
 
-    case-kind : same-but-case w (spelling r) ≡ true → keyword-but-case w ≡ keyword-but-case (spelling r)
-    unfolding keyword-but-case
-    case-kind f = search-like first-keyword same-but-case w (spelling r) keywords (λ x. case-like w (spelling r) x f)
-
     sorted-but-case : same w (spelling r) ≡ false → same-but-case w (spelling r) ≡ true → OtherCase (keyword (spelling r)) ≡ sorted w (length w)
     unfolding sorted
     sorted-but-case e f =
-        let k : keyword-but-case w ≡ keyword (spelling r) = case-kind f ∙ case-kind-at h in
+        let k : keyword-but-case w ≡ keyword (spelling r) = case-kind (spelling r) f ∙ case-kind-at h in
         rw (spelled-none e f, k, lt-ltb 0 (keyword (spelling r)) (some-kind h))
 
     sorted-found : (v : String) (vs : List String) → bytes v ≡ spelling r → same-but-case w (spelling r) ≡ true →

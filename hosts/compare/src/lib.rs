@@ -63,12 +63,20 @@ fn run(seed: u64, count: usize, mut case: impl FnMut(&Cases, &mut Random) -> Res
     Ok(tally)
 }
 
+/// How many numbers the token table of a text needs; 0 if the text is too long or has a fault.
+pub fn tokens_needed(text: &[u8]) -> usize {
+    let reply = ordinary::read_tokens(text, &mut []);
+    match reply.number {
+        number::ACCEPTED | number::TOKEN_TABLE_FULL => TOKEN_NUMBERS * reply.tokens as usize,
+        _ => 0,
+    }
+}
+
 /// Compares a token part.
 pub fn token_part(seed: u64, count: usize, reader: impl Fn(&[u8], &mut [u32]) -> Numbers) -> Outcome {
     run(seed, count, |cases, random| {
         let text = cases.text(random).into_boxed_slice();
-        let needed = ordinary::read_tokens(&text, &mut []).tokens as usize;
-        let before = garbage(table_length(TOKEN_NUMBERS * needed, random), random);
+        let before = garbage(table_length(tokens_needed(&text), random), random);
         let (mut ours, mut theirs) = (before.clone(), before);
         let reply = reader(&text, &mut ours);
         let wanted = plain(ordinary::read_tokens(&text, &mut theirs));
@@ -115,7 +123,7 @@ pub fn whole_reader(
     run(seed, count, |cases, random| {
         let text = cases.text(random).into_boxed_slice();
         let depth = depth(random);
-        let tokens_needed = TOKEN_NUMBERS * ordinary::read_tokens(&text, &mut []).tokens as usize;
+        let tokens_needed = tokens_needed(&text);
         let ample = ordinary::read(&text, &mut vec![0; tokens_needed], &mut [], depth);
         let tokens = garbage(table_length(tokens_needed, random), random);
         let tree = garbage(table_length(TREE_NUMBERS * ample.records as usize, random), random);

@@ -1,9 +1,9 @@
 //! The comparison notices planted mistakes.
 
 use compare::{plain, spellings, token_part, tree_part, whole_reader, Numbers, Outcome};
-use generate::kind::{STRINGS, WIDE_STRING};
+use generate::kind::{FIRST_KEYWORD, STRINGS, WIDE_STRING};
 use generate::Grammar;
-use ordinary::number::{ACCEPTED, BAD_CALL, TOKEN_TABLE_FULL, TREE_TABLE_FULL};
+use ordinary::number::{ACCEPTED, BAD_CALL, KEYWORD_CASE, TOKEN_TABLE_FULL, TREE_TABLE_FULL};
 use ordinary::{read, read_tokens, read_tree, spelling, DEPTH_CEILING, TEXT_CEILING, TOKEN_NUMBERS, TREE_NUMBERS};
 
 const CASES: usize = 20_000;
@@ -32,6 +32,22 @@ fn false_counts() {
         };
         assert_noticed(whole_reader(1, CASES, |text, tokens, tree, depth| {
             counted(plain(read(text, tokens, tree, depth)))
+        }));
+    }
+}
+
+#[test]
+fn false_kinds_of_keywords_in_another_case() {
+    // No kind, the next keyword's, and the keyword's place in the list.
+    let mistakes: [fn(u32) -> u32; 3] = [|_| 0, |kind| kind + 1, |kind| kind - FIRST_KEYWORD];
+    for mistake in mistakes {
+        let named = |reply: Numbers| match reply {
+            [KEYWORD_CASE, place, kind, records] => [KEYWORD_CASE, place, mistake(kind), records],
+            reply => reply,
+        };
+        assert_noticed(token_part(1, CASES, |text, tokens| named(plain(read_tokens(text, tokens)))));
+        assert_noticed(whole_reader(1, CASES, |text, tokens, tree, depth| {
+            named(plain(read(text, tokens, tree, depth)))
         }));
     }
 }

@@ -4,13 +4,26 @@
 use crate::cases::TOKEN_NUMBERS;
 use crate::kind::{self, Kinds, MARKS};
 
-/// What is wrong with a text, by the number of its reply.
+/// What is wrong with a text.
 #[derive(Clone, Copy)]
 pub enum Fault {
-    NoLexeme = 2,
-    Open = 3,
-    BadLiteral = 4,
-    KeywordCase = 5,
+    NoLexeme,
+    Open,
+    BadLiteral,
+    /// The keyword of this kind, in another case.
+    KeywordCase(u32),
+}
+
+impl Fault {
+    /// The number of its reply, and the first count.
+    pub fn number_and_count(self) -> (u32, u32) {
+        match self {
+            Fault::NoLexeme => (2, 0),
+            Fault::Open => (3, 0),
+            Fault::BadLiteral => (4, 0),
+            Fault::KeywordCase(kind) => (5, kind),
+        }
+    }
 }
 
 /// The token records of a text, or its first fault and the place of it.
@@ -94,7 +107,7 @@ fn word_kind(word: &[u8], kinds: &Kinds) -> Result<u32, Fault> {
     let similar = kinds.keywords().find(|keyword| keyword.as_bytes().eq_ignore_ascii_case(word));
     match (same, similar) {
         (Some(keyword), _) => Ok(kinds.of(keyword)),
-        (None, Some(_)) => Err(Fault::KeywordCase),
+        (None, Some(keyword)) => Err(Fault::KeywordCase(kinds.of(keyword))),
         (None, None) => Ok(kind::IDENTIFIER),
     }
 }

@@ -1,5 +1,7 @@
-//! The grammar as data, and what comes from it: valid texts, damaged texts, token tables, and a slow reader.
+//! The grammar as data, and what comes from it: valid texts, damaged texts, token tables, and a slow reader; and the
+//! keywords that the proofs believe.
 
+pub mod believed;
 pub mod cases;
 pub mod chart;
 pub mod corpus;

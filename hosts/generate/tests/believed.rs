@@ -1,6 +1,7 @@
-//! The grammar that the proofs believe is the published one, repaired and amended, rule by rule.
+//! The grammar that the proofs believe is the published one, repaired and amended, rule by rule and by its keywords.
 
-use generate::Grammar;
+use generate::kind::{FIRST_KEYWORD, FIRST_MARK};
+use generate::{believed, Grammar};
 
 const BELIEVED: &str = include_str!("../../../crates/grammar/specs/Idl.antt");
 
@@ -32,4 +33,12 @@ fn the_believed_rules_are_the_published_ones() {
     for (rule, side) in published.rules.iter().enumerate() {
         assert_eq!(&believed.rules[rule], side, "rule {rule}");
     }
+}
+
+#[test]
+fn the_believed_keywords_are_the_published_ones() {
+    let kinds = Grammar::published().kinds;
+    let published: Vec<(u32, &str)> = kinds.keywords().map(|keyword| (kinds.of(keyword), keyword)).collect();
+    assert_eq!(published.len(), (FIRST_MARK - FIRST_KEYWORD) as usize);
+    assert_eq!(believed::keywords(), published);
 }

@@ -113,22 +113,23 @@ const fn spelling(word: &[u8]) -> Spelling {
     Spelling { first: u64::from_le_bytes(blocks[0]), second: u64::from_le_bytes(blocks[1]) }
 }
 
-/// The kind of a word of this length; none if it differs from a keyword only in the case of letters.
+/// The kind of a word of this length, or else that of the keyword from which it differs only in the case of letters.
 #[inline]
-pub fn kind_of(word: Spelling, length: usize) -> Option<u32> {
+pub fn kind_of(word: Spelling, length: usize) -> Result<u32, u32> {
     if length > LONGEST {
-        return Some(kind::IDENTIFIER);
+        return Ok(kind::IDENTIFIER);
     }
     let mut index = INDEX.first[length][letter(word.first as u8)];
     while let Some(keyword) = INDEX.keywords.get(index as usize) {
+        let kind = kind::FIRST_KEYWORD + u32::from(index);
         let differing = (word.first ^ keyword.spelling.first) | (word.second ^ keyword.spelling.second);
         if differing == 0 {
-            return Some(kind::FIRST_KEYWORD + u32::from(index));
+            return Ok(kind);
         }
         if block::small(differing) == block::small(0) {
-            return None;
+            return Err(kind);
         }
         index = keyword.next;
     }
-    Some(kind::IDENTIFIER)
+    Ok(kind::IDENTIFIER)
 }

@@ -34,7 +34,8 @@ pub const TOKEN_NUMBERS: usize = 3;
 /// The numbers of a tree record.
 pub const TREE_NUMBERS: usize = 4;
 
-/// A reply: its number, a place in bytes, a count of tokens and a count of tree records.
+/// A reply: its number, a place in bytes, a count of tokens and a count of tree records. For a keyword in another case
+/// the count of tokens is the keyword's kind.
 #[derive(Clone, Copy, Debug, PartialEq, Eq)]
 pub struct Reply {
     pub number: u32,
@@ -109,7 +110,7 @@ fn depth_is_good(depth: u32) -> bool {
 /// The reply of the token part; the table is left as it was filled.
 fn scan_reply(text: &[u8], tokens: &mut [u32]) -> Reply {
     match scan::scan(text, tokens) {
-        Err(fault) => Reply::new(fault.number, fault.place, 0, 0),
+        Err(fault) => Reply::new(fault.number, fault.place, fault.keyword as usize, 0),
         Ok(count) if count > tokens.len() / TOKEN_NUMBERS => Reply::new(number::TOKEN_TABLE_FULL, text.len(), count, 0),
         Ok(count) => Reply::new(number::ACCEPTED, text.len(), count, 0),
     }

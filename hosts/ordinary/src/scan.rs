@@ -7,11 +7,19 @@ use crate::kind;
 use crate::number;
 use crate::TOKEN_NUMBERS;
 
-/// The first fault of a text: the number of its reply and the place it blames.
+/// The first fault of a text: the number of its reply, the place it blames, and a keyword's kind.
 #[derive(Clone, Copy, Debug, PartialEq, Eq)]
 pub struct Fault {
     pub number: u32,
     pub place: usize,
+    /// The kind of the keyword that stands there in another case; 0 for every other fault.
+    pub keyword: u32,
+}
+
+impl Fault {
+    fn new(number: u32, place: usize) -> Self {
+        Fault { number, place, keyword: 0 }
+    }
 }
 
 /// A lexeme's kind and the place one past its last byte.
@@ -111,8 +119,8 @@ fn word(text: &[u8], start: usize, first: u8) -> Lexeme {
 #[inline]
 fn spelled(spelling: Spelling, start: usize, end: usize) -> Lexeme {
     match keyword::kind_of(spelling, end - start) {
-        Some(kind) => Ok((kind, end)),
-        None => Err(Fault { number: number::KEYWORD_CASE, place: start }),
+        Ok(kind) => Ok((kind, end)),
+        Err(keyword) => Err(Fault { number: number::KEYWORD_CASE, place: start, keyword }),
     }
 }
 
@@ -190,7 +198,7 @@ fn quoted(text: &[u8], start: usize, open: usize) -> Lexeme {
         if byte == quote {
             break;
         }
-        let character = character(text, at, byte, wide).map_err(|number| Fault { number, place: start })?;
+        let character = character(text, at, byte, wide).map_err(|number| Fault::new(number, start))?;
         if is_string && character.zero || !is_string && characters == 1 {
             return Err(bad_literal(start));
         }
@@ -256,13 +264,13 @@ fn numbered(text: &[u8], start: usize, limit: usize, radix: u32) -> Result<Chara
 }
 
 fn no_lexeme(place: usize) -> Fault {
-    Fault { number: number::NO_LEXEME, place }
+    Fault::new(number::NO_LEXEME, place)
 }
 
 fn open_at_end(place: usize) -> Fault {
-    Fault { number: number::OPEN, place }
+    Fault::new(number::OPEN, place)
 }
 
 fn bad_literal(place: usize) -> Fault {
-    Fault { number: number::BAD_LITERAL, place }
+    Fault::new(number::BAD_LITERAL, place)
 }

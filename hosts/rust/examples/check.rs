@@ -4,7 +4,6 @@
 
 mod common;
 
-use idl::Reply;
 use std::env;
 use std::io::{self, Write};
 use std::path::PathBuf;
@@ -27,9 +26,6 @@ fn main() -> io::Result<ExitCode> {
 
 fn what_is_wrong(text: &[u8]) -> Option<(usize, String)> {
     let (mut tokens, mut tree) = common::tables(text);
-    match idl::read(text, &mut tokens, &mut tree, idl::DEPTH_CEILING) {
-        Reply::Accepted { .. } => None,
-        Reply::Grammar { place, .. } if place == text.len() => Some((place, "the text ends too early".to_string())),
-        refusal => Some((refusal.place().unwrap_or(0), refusal.to_string())),
-    }
+    let reply = idl::read(text, &mut tokens, &mut tree, idl::DEPTH_CEILING);
+    (!reply.is_accepted()).then(|| common::what_is_wrong(text, reply))
 }

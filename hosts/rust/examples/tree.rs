@@ -1,4 +1,4 @@
-//! Reads a file and prints its tokens and its tree, indented.
+//! Reads a file and prints its tokens and its tree, indented; or `FILE:byte: what is wrong`.
 //!
 //! Usage: tree FILE
 
@@ -27,7 +27,8 @@ fn main() -> io::Result<ExitCode> {
             Ok(ExitCode::SUCCESS)
         }
         refusal => {
-            eprintln!("{}: {refusal}", file.display());
+            let (place, message) = common::what_is_wrong(&text, refusal);
+            writeln!(io::stdout(), "{}:{place}: {message}", file.display())?;
             Ok(ExitCode::FAILURE)
         }
     }

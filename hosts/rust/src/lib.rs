@@ -26,7 +26,7 @@ mod table;
 
 pub use raw::{spelling, DEPTH_CEILING, TEXT_CEILING, TOKEN_NUMBERS, TREE_NUMBERS};
 pub use reply::Reply;
-pub use table::{kind_name, outline, records, rule_name, tokens, Record, Token};
+pub use table::{keyword, kind_name, outline, records, rule_name, tokens, Record, Token};
 
 /// Reads the tokens of a text. An accepted text is one without a fault, whatever the grammar would say.
 ///
@@ -62,7 +62,8 @@ pub fn read_tree(tokens: &[u32], token_count: usize, text_length: usize, tree: &
 /// ```
 /// let text = b"interface Factory { };";
 /// let reply = idl::read(text, &mut [0; 30], &mut [0; 40], 64);
-/// assert_eq!(reply, idl::Reply::KeywordCase { place: 10 });
+/// assert_eq!(reply, idl::Reply::KeywordCase { place: 10, kind: 33 });
+/// assert_eq!(reply.to_string(), "this differs only in case from the keyword 'factory'");
 /// assert!(reply.blames_text());
 ///
 /// let reply = idl::read(b"native A;", &mut [0; 30], &mut [0; 4], 64);

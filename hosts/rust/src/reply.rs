@@ -1,6 +1,7 @@
 //! What the reader says, by name.
 
 use crate::raw::{self, number};
+use crate::table::keyword;
 use std::fmt;
 
 /// A reply. Places are in bytes from the start of the text.
@@ -16,8 +17,9 @@ pub enum Reply {
     Open { place: usize },
     /// The literal that starts here is bad.
     BadLiteral { place: usize },
-    /// The word that starts here differs from a keyword only in the case of letters.
-    KeywordCase { place: usize },
+    /// The word that starts here differs from the keyword of this kind only in the case of letters. It is as long as
+    /// the keyword, which [`crate::keyword`] spells.
+    KeywordCase { place: usize, kind: u32 },
     /// The token table has too little room for this many tokens.
     TokenTableFull { tokens: usize },
     /// No text goes on with the token that starts here; or the text ends too early, and this is its length.
@@ -45,7 +47,7 @@ impl Reply {
     pub fn place(&self) -> Option<usize> {
         use Reply::*;
         match *self {
-            NoLexeme { place } | Open { place } | BadLiteral { place } | KeywordCase { place } => Some(place),
+            NoLexeme { place } | Open { place } | BadLiteral { place } | KeywordCase { place, .. } => Some(place),
             Grammar { place, .. } | TooDeep { place, .. } => Some(place),
             Accepted { .. } | BadCall | TokenTableFull { .. } | TreeTableFull { .. } | Unknown(_) => None,
         }
@@ -63,7 +65,7 @@ impl From<raw::Reply> for Reply {
             number::NO_LEXEME => Reply::NoLexeme { place },
             number::OPEN => Reply::Open { place },
             number::BAD_LITERAL => Reply::BadLiteral { place },
-            number::KEYWORD_CASE => Reply::KeywordCase { place },
+            number::KEYWORD_CASE => Reply::KeywordCase { place, kind: reply.tokens },
             number::TOKEN_TABLE_FULL => Reply::TokenTableFull { tokens },
             number::GRAMMAR => Reply::Grammar { place, tokens },
             number::TOO_DEEP => Reply::TooDeep { place, tokens },
@@ -81,7 +83,10 @@ impl fmt::Display for Reply {
             Reply::NoLexeme { .. } => write!(formatter, "no token starts here"),
             Reply::Open { .. } => write!(formatter, "this comment or literal is not closed"),
             Reply::BadLiteral { .. } => write!(formatter, "this literal is bad"),
-            Reply::KeywordCase { .. } => write!(formatter, "this is a keyword in another case"),
+            Reply::KeywordCase { kind, .. } => match keyword(*kind) {
+                Some(keyword) => write!(formatter, "this differs only in case from the keyword '{keyword}'"),
+                None => write!(formatter, "this is a keyword in another case, of the unknown kind {kind}"),
+            },
             Reply::TokenTableFull { tokens } => write!(formatter, "the token table has no room for {tokens} tokens"),
             Reply::Grammar { .. } => write!(formatter, "no definition goes on like this"),
             Reply::TooDeep { .. } => write!(formatter, "this is nested too deep"),

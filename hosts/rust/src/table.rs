@@ -93,6 +93,17 @@ const CLASSES: [&str; 8] = [
     "wide string literal",
 ];
 
+/// The spelling of the keyword of this kind; none for any other kind.
+///
+/// ```
+/// assert_eq!(idl::keyword(33), Some("factory"));
+/// assert_eq!(idl::keyword(1), None);
+/// assert_eq!(idl::keyword(64), None);
+/// ```
+pub fn keyword(kind: u32) -> Option<&'static str> {
+    KEYWORDS.split_whitespace().nth(kind.checked_sub(FIRST_KEYWORD)? as usize)
+}
+
 /// What a kind of token is called; keywords and marks are called as they are spelled.
 ///
 /// ```
@@ -103,7 +114,7 @@ const CLASSES: [&str; 8] = [
 pub fn kind_name(kind: u32) -> Option<&'static str> {
     match kind {
         FIRST_MARK.. => MARKS.split_whitespace().nth((kind - FIRST_MARK) as usize),
-        FIRST_KEYWORD.. => KEYWORDS.split_whitespace().nth((kind - FIRST_KEYWORD) as usize),
+        FIRST_KEYWORD.. => keyword(kind),
         _ => CLASSES.get((kind as usize).checked_sub(1)?).copied(),
     }
 }

@@ -12,7 +12,7 @@ use Rattle.text.specs.declared.Lexeme.{Lexeme}
 use Rattle.text.specs.declared.Lexeme.the-variants.{Blank, Token}
 use Rattle.words.specs.Table.{table}
 use Rattle.replies.specs.declared.Reply.{Reply}
-use Rattle.replies.specs.Replies as rows
+use Rattle.replies.specs.Faults.{Fault, no-lexeme, left-open, bad-literal, other-case, row}
 use Rattle.tokens.specs.Answer.{Scanned}
 use Rattle.tokens.specs.declared.Found.the-variants as found
 use Rattle.text.proofs.Rests.{rest}
@@ -123,9 +123,8 @@ kept : (c : tie.After-lexeme Inv-loop μ-loop) → length (turn c .before .loop 
 kept c = reading-length _ _ (turn c .before .loop .inv .1)
 
 -- a fault at this turn decides what the text is
-faulty : (c : tie.After-lexeme Inv-loop μ-loop) {l : Lexeme} {reply : Reply} {after : List ℕ} (number : ℕ) →
-    let at = turn c .before .loop .at in
-    ((rest : ℕ → Tokens) → then l at rest ≡ fault number at) → l ≡ lexeme (left c) → reply ≡ rows.fault number at →
+faulty : (c : tie.After-lexeme Inv-loop μ-loop) {l : Lexeme} {reply : Reply} {after : List ℕ} (f : Fault) →
+    ((rest : ℕ → Tokens) → then l (turn c .before .loop .at) rest ≡ fault f) → l ≡ lexeme (left c) → reply ≡ row f →
     Scanned (tokens-of (entry c .args .text .now)) (entry c .args .tokens .now) after (found.Fault reply)
 faulty c = reading-fault _ _ (turn c .loop-test .taken) (turn c .before .loop .inv .1)
 
@@ -133,25 +132,25 @@ returns : tie.Need-returns Inv-loop μ-loop
 unfolding then
 returns c =
     let read = c .before .before .before in
-    faulty read 2 (λ rest. refl) (sym (c .before .enum-told .given .1) ∙ next read) (c .no-lexeme .ensures)
+    faulty read (no-lexeme _) (λ rest. refl) (sym (c .before .enum-told .given .1) ∙ next read) (c .no-lexeme .ensures)
 
 returns-2 : tie.Need-returns-2 Inv-loop μ-loop
 unfolding then
 returns-2 c =
     let read = c .before .before .before in
-    faulty read 3 (λ rest. refl) (sym (c .before .enum-told2 .given .1) ∙ next read) (c .left-open .ensures)
+    faulty read (left-open _) (λ rest. refl) (sym (c .before .enum-told2 .given .1) ∙ next read) (c .left-open .ensures)
 
 returns-3 : tie.Need-returns-3 Inv-loop μ-loop
 unfolding then
 returns-3 c =
     let read = c .before .before .before in
-    faulty read 4 (λ rest. refl) (sym (c .before .enum-told3 .given .1) ∙ next read) (c .bad-literal .ensures)
+    faulty read (bad-literal _) (λ rest. refl) (sym (c .before .enum-told3 .given .1) ∙ next read) (c .bad-literal .ensures)
 
 returns-4 : tie.Need-returns-4 Inv-loop μ-loop
 unfolding then
 returns-4 c =
-    let read = c .before .before .before in
-    faulty read 5 (λ rest. refl) (sym (c .before .enum-told4 .given .1) ∙ next read) (c .other-case .ensures)
+    let read = c .before .before .before .before in
+    faulty read (other-case _ _) (λ rest. refl) (sym (c .before .before .found3 .given .1) ∙ next read) (c .other-case .ensures)
 
 returns-5 : tie.Need-returns-5 Inv-loop μ-loop
 returns-5 c = reading-ends _ _ (c .loop-test .left) (c .before .loop .inv .1)
@@ -165,5 +164,5 @@ scan-spec =
     (λ c. omega arith) (λ c κs. search needs) (λ c. kept (c .before .before .before)) returns (λ c. search needs)
     (λ c. omega arith) (λ c κs. search needs) (λ c. kept (c .before .before .before)) returns-2 (λ c. search needs)
     (λ c. omega arith) (λ c κs. search needs) (λ c. kept (c .before .before .before)) returns-3 (λ c. search needs)
-    (λ c. omega arith) (λ c κs. search needs) (λ c. kept (c .before .before .before)) returns-4
+    (λ c. omega arith) (λ c κs. search needs) (λ c. kept (c .before .before .before .before)) returns-4
     (λ c. reading-length _ _ (c .before .loop .inv .1)) returns-5)

@@ -1,7 +1,7 @@
 //! Calls each part of both readers once on each text, on words alone only the token part, and prints, in this order,
 //! what it has called. Run by `hosts/instructions`, which counts the instructions of each call.
 
-use compare::{plain, plain_proved, texts, Numbers};
+use compare::{plain, plain_proved, texts, tokens_needed, Numbers};
 use generate::corpus::{CORPORA, COUNTED_SEED, COUNTED_SIZE, SCANNER};
 use ordinary::{DEPTH_CEILING as DEPTH, TOKEN_NUMBERS, TREE_NUMBERS};
 
@@ -21,8 +21,7 @@ fn count(text: &str, part: &str, mut theirs: impl FnMut() -> Numbers, mut ours: 
 
 /// Counts the token part and gives the table that it has filled.
 fn count_tokens(name: &str, text: &[u8]) -> Vec<u32> {
-    let count_of_tokens = ordinary::read_tokens(text, &mut []).tokens as usize;
-    let mut tokens = vec![0; TOKEN_NUMBERS * count_of_tokens];
+    let mut tokens = vec![0; tokens_needed(text)];
     let mut other_tokens = tokens.clone();
     count(
         name,

@@ -5,7 +5,7 @@
 //! batches of different ones, each read once, since a processor learns the branches of a small text that is read over
 //! and over. No table is cleared between calls: both readers leave the same numbers there.
 
-use compare::{plain, plain_proved, Numbers};
+use compare::{plain, plain_proved, tokens_needed, Numbers};
 use generate::corpus::{CORPORA, SCANNER};
 use generate::nest::{nested, WAYS};
 use generate::sentence::Sentences;
@@ -34,8 +34,7 @@ struct Text {
 
 impl Text {
     fn new(bytes: Vec<u8>) -> Self {
-        let count = ordinary::read_tokens(&bytes, &mut []).tokens as usize;
-        let mut tokens = vec![0; TOKEN_NUMBERS * count];
+        let mut tokens = vec![0; tokens_needed(&bytes)];
         ordinary::read_tokens(&bytes, &mut tokens);
         Text { bytes, tokens }
     }

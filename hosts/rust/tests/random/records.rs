@@ -36,6 +36,13 @@ fn replies() {
         assert_eq!(reply.blames_text(), blames_text);
         assert_eq!(reply.place(), (blames_text || number == TOO_DEEP).then_some(place as usize));
         assert_eq!(reply == Reply::Unknown(plain), number > TREE_TABLE_FULL);
-        assert!(!reply.to_string().is_empty());
+        let kind = plain.tokens;
+        assert_eq!(reply == Reply::KeywordCase { place: place as usize, kind }, number == KEYWORD_CASE);
+        let said = reply.to_string();
+        assert!(!said.is_empty());
+        if number == KEYWORD_CASE {
+            let named = idl::keyword(kind).map_or(kind.to_string(), |keyword| format!("'{keyword}'"));
+            assert!(said.ends_with(&named), "{said}");
+        }
     }
 }
