@@ -9,7 +9,7 @@
  * first token, one past the last token, records in its subtree with itself; children stand before their parent, left
  * to right. A table holds its length divided by 3 or 4, rounded down, records.
  *
- * C99 or C++; link with libidl.a (x86-64).
+ * C99 or C++11; link with libidl.a (x86-64).
  */
 #ifndef IDL_H
 #define IDL_H
