@@ -40,7 +40,7 @@ enum idl_number {
     IDL_BAD_CALL = 1,         /* text too long, or depth setting outside 1 to 64; place 0, counts 0 */
     IDL_NO_LEXEME = 2,        /* no lexeme starts at this place; counts 0 */
     IDL_OPEN = 3,             /* comment open at the end, or literal open at the end of its line; place: its start */
-    IDL_BAD_LITERAL = 4,      /* bad literal; place: its start; counts 0 */
+    IDL_BAD_LITERAL = 4,      /* bad literal, also by a byte outside 32 to 126; place: its start; counts 0 */
     IDL_KEYWORD_CASE = 5,     /* keyword in another case; place: its start; tokens: the keyword's kind; records 0 */
     IDL_TOKEN_TABLE_FULL = 6, /* place: text length; tokens: the number needed */
     IDL_GRAMMAR = 7,          /* no text goes on with the token here; or the text ends too early: its length */

@@ -1,4 +1,4 @@
-//! What the tests share: a call with ample tables.
+//! What the tests share: a call with ample tables, and a refusal of both parts.
 
 use super::reader::number::ACCEPTED;
 use super::reader::{read, read_tokens, Reply, DEPTH_CEILING, TOKEN_NUMBERS, TREE_NUMBERS};
@@ -47,6 +47,24 @@ pub fn outcome_at(text: &[u8], depth: u32) -> Outcome {
     let mut tree = vec![0; 2 * TREE_NUMBERS * text.len()];
     let reply = read(text, &mut tokens, &mut tree, depth);
     Outcome { reply, tokens, tree }
+}
+
+/// What a table holds before a call.
+pub const FILLER: u32 = 7;
+
+/// Demands this refusal of the token part and of the whole reader, and zeros in their tables, which have these lengths.
+pub fn assert_refused_into([tokens_length, tree_length]: [usize; 2], text: &[u8], wanted: Numbers) {
+    let (mut alone, mut tokens) = (vec![FILLER; tokens_length], vec![FILLER; tokens_length]);
+    let mut tree = vec![FILLER; tree_length];
+    let part = read_tokens(text, &mut alone);
+    let whole = read(text, &mut tokens, &mut tree, DEPTH_CEILING);
+    assert_eq!([part, whole].map(numbers_of), [wanted; 2], "{}", text.escape_ascii());
+    assert!([alone, tokens, tree].concat().iter().all(|&number| number == 0), "{}", text.escape_ascii());
+}
+
+/// The same with ample tables.
+pub fn assert_refused(text: &[u8], wanted: Numbers) {
+    assert_refused_into([TOKEN_NUMBERS * text.len(), 2 * TREE_NUMBERS * text.len()], text, wanted);
 }
 
 /// The kinds of the tokens of a text, or the numbers of its refusal.

@@ -1,31 +1,14 @@
 //! A keyword in another case is refused with the keyword's kind: request A3.
 
-use super::common::{numbers_of, outcome, tokens, Numbers, CASE};
+use super::common::{assert_refused, assert_refused_into, numbers_of, outcome, tokens, CASE, FILLER};
 use super::reader::number::{ACCEPTED, BAD_CALL, BAD_LITERAL, KEYWORD_CASE, NO_LEXEME, OPEN};
 use super::reader::{read, read_tokens, DEPTH_CEILING, TEXT_CEILING, TOKEN_NUMBERS, TREE_NUMBERS};
 use generate::kind::{IDENTIFIER, MARKS};
 use generate::Grammar;
 
-const FILLER: u32 = 7;
-
-/// Demands this refusal of the token part and of the whole reader, and zeros in their tables, which have these lengths.
-fn assert_refused_into([tokens_length, tree_length]: [usize; 2], text: &str, wanted: Numbers) {
-    let (mut alone, mut tokens) = (vec![FILLER; tokens_length], vec![FILLER; tokens_length]);
-    let mut tree = vec![FILLER; tree_length];
-    let part = read_tokens(text.as_bytes(), &mut alone);
-    let whole = read(text.as_bytes(), &mut tokens, &mut tree, DEPTH_CEILING);
-    assert_eq!([part, whole].map(numbers_of), [wanted; 2], "{text:?}");
-    assert!([alone, tokens, tree].concat().iter().all(|&number| number == 0), "{text:?}");
-}
-
-/// The same with ample tables.
-fn assert_refused(text: &str, wanted: Numbers) {
-    assert_refused_into([TOKEN_NUMBERS * text.len(), 2 * TREE_NUMBERS * text.len()], text, wanted);
-}
-
 /// Demands that a text is refused for the keyword of this kind, in another case at this place.
 fn assert_keyword_case(text: &str, place: usize, kind: u32) {
-    assert_refused(text, (KEYWORD_CASE, place as u32, kind, 0));
+    assert_refused(text.as_bytes(), (KEYWORD_CASE, place as u32, kind, 0));
 }
 
 /// A keyword with the case of the letters changed whose places pass the test.
@@ -90,7 +73,7 @@ fn the_first_fault_stands() {
     let faults =
         [("@", NO_LEXEME, 0), ("\"a\n", OPEN, 0), ("/*", OPEN, 0), ("08", BAD_LITERAL, 0), ("LONG", KEYWORD_CASE, 40)];
     for (fault, number, count) in faults {
-        assert_refused(&format!("{fault} Factory"), (number, 0, count, 0));
+        assert_refused(format!("{fault} Factory").as_bytes(), (number, 0, count, 0));
         assert_keyword_case(&format!("Factory {fault}"), 0, 33);
     }
 }
@@ -123,7 +106,7 @@ fn it_comes_before_the_grammar_the_depth_and_full_tables() {
     let parentheses = "(".repeat(DEPTH_CEILING as usize + 1);
     assert_keyword_case(&format!("const long A = {parentheses}False"), 15 + parentheses.len(), 16);
     for lengths in (0..7).flat_map(|tokens| (0..5).map(move |tree| [tokens, tree])) {
-        assert_refused_into(lengths, "native A; native Local;", (KEYWORD_CASE, 17, 39, 0));
+        assert_refused_into(lengths, b"native A; native Local;", (KEYWORD_CASE, 17, 39, 0));
     }
 }
 

@@ -77,7 +77,6 @@ fn escapes() {
         "'\"' \"'\" ' ' '~' '/' \"/*\" \"//\"",
         &[CHARACTER, STRING, CHARACTER, CHARACTER, CHARACTER, STRING, STRING],
     );
-    assert_eq!(tokens(b"'\xa0' '\xff'"), Ok(vec![CHARACTER, CHARACTER]));
     let bad: [&[u8]; 13] = [
         br"'\8'",
         br"'\X1'",
@@ -114,14 +113,9 @@ fn open_and_bad_literals() {
 }
 
 #[test]
-fn high_bytes_outside_literals() {
-    assert_faults(
-        &[b"\x80", b"\xa0", b"\xff", b"#", b"@", b"\\", b"\0", b"\x7f", b"!", b"$", b"?", b"`"],
-        NO_LEXEME,
-        0,
-    );
-    assert_faults(&[b"a\xe9"], NO_LEXEME, 1);
-    assert_eq!(tokens(b"/* \xe9 \0 */ // \xe9 \0"), Ok(vec![]));
+fn bytes_of_no_lexeme() {
+    assert_faults(&[b"#", b"@", b"\\", b"\0", b"!", b"$", b"?", b"`"], NO_LEXEME, 0);
+    assert_eq!(tokens(b"/* \0 */ // \0"), Ok(vec![]));
 }
 
 #[test]

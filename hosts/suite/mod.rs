@@ -10,5 +10,6 @@ mod edges;
 mod keyword_case;
 mod lexemes;
 mod lexicon;
+mod literal_bytes;
 mod samples;
 mod strings;

@@ -1,6 +1,6 @@
 pub mod Keys
 pub mod AllZero
-pub mod Sizes
+pub mod Taken
 pub mod Pieces
 pub mod Reach
 pub mod Ordinary

@@ -6,30 +6,32 @@ use mathlib.Core.List.{List}
 use Prim.Native.Char.{code}
 use Prim.Native.Nat.{ℕ, zero, suc, _+_, _-_, _≤_, _<_}
 use native.Mathlib.Omega.{arith}
-use lib.ListN.{length, take, drop}
-use Rattle.text.specs.Bytes.{end}
+use lib.ListN.{length, take, drop, length-drop}
 use Rattle.text.specs.Literals.{piece, character-kind, string-kind, after-character, closing, one-character, character}
 use Rattle.text.specs.Literals.{string-piece, string-in, string}
 use Rattle.text.specs.declared.Lexeme.the-variants.{Token}
 use Rattle.text.specs.declared.Piece.{Piece}
 use Rattle.text.specs.declared.Piece.the-variants.{Character, Zero}
 use Rattle.text.proofs.Rests.{rest}
-use Rattle.literals.proofs.Sizes.{Stands, character-size, zero-size, piece-left}
+use Rattle.literals.proofs.Taken.{Taken, taken-within, Stands, piece-stands}
 
 module _ (wide : Bool) (quote n : ℕ) (bs : List ℕ) {p : Piece}
     (read : p ≡ piece wide quote (take (length bs - n) (drop n bs))) where
   next : {q : Piece} → p ≡ q → q ≡ piece wide quote (drop n bs)
   next is = sym is ∙ read ∙ ap (piece wide quote) (rest bs n)
 
-  stands : {q : Piece} → quote < end → p ≡ q → Stands (length bs - n) q
-  stands h is = subst (Stands (length bs - n)) (sym (next is)) (piece-left wide quote n bs h)
+  stands : {q : Piece} → p ≡ q → Stands quote (drop n bs) q
+  stands is = subst (Stands quote (drop n bs)) (sym (next is)) (piece-stands quote (drop n bs) wide)
+
+  past : {m : ℕ} → (0 < m) × Taken (drop n bs) m → (0 < m) × (n + m ≤ length bs)
+  past {m} s = (s .0, omega (arith, s .0, taken-within (drop n bs) m (s .1), length-drop n bs))
 
   -- a character takes bytes that stand in the text, and so does character zero
-  pub past-character : {m : ℕ} → quote < end → p ≡ Character m → (0 < m) × (n + m ≤ length bs)
-  past-character h is = let s = character-size (stands h is) in (s .0, omega arith)
+  pub past-character : {m : ℕ} → p ≡ Character m → (0 < m) × (n + m ≤ length bs)
+  past-character is = past (stands is)
 
-  pub past-zero : {m : ℕ} → quote < end → p ≡ Zero m → (0 < m) × (n + m ≤ length bs)
-  past-zero h is = let s = zero-size (stands h is) in (s .0, omega arith)
+  pub past-zero : {m : ℕ} → p ≡ Zero m → (0 < m) × (n + m ≤ length bs)
+  past-zero is = past (stands is)
 
 module _ (wide : Bool) (n : ℕ) (bs : List ℕ) {p q : Piece}
     (read : p ≡ piece wide (code "'") (take (length bs - n) (drop n bs))) (is : p ≡ q) where
@@ -70,5 +72,5 @@ module _ (wide : Bool) (start : ℕ) (bs : List ℕ) where
       p ≡ piece wide (code "\"") (take (length bs - n) (drop n bs)) → p ≡ Character m → Reading wide start bs (n + m)
   unfolding string-piece
   reading-more {n} {m} r read is =
-      let s = past-character wide (code "\"") n bs read (omega arith) is in
+      let s = past-character wide (code "\"") n bs read is in
       on n m (r .more) (s .1) (s .0) (r .enough) (sym (string-by r read is))

@@ -1,6 +1,7 @@
 pub mod Editions
 pub mod Mixtures
 pub mod OtherCase
+pub mod Literals
 pub mod Places
 pub mod Soundness
 pub mod Demand1

@@ -3,7 +3,7 @@
 use Prim.Native.Nat.{ℕ, suc, _≤_, _<_}
 use mathlib.Core.Path.{_≡_}
 use mathlib.Core.Bool.{true, false}
-use mathlib.Core.List.{List, map}
+use mathlib.Core.List.{List, [], map}
 use native.Mathlib.Omega.{arith}
 use lib.ListN.{length, getD}
 use Rattle.grammar.specs.Blame.{Begins, Blame}
@@ -33,10 +33,12 @@ use Rattle.meaning.specs.Samples.{All, Holds, starred}
 use Rattle.meaning.proofs.OneMeaning.{some-text-sense, one-text-sense}
 use Rattle.meaning.proofs.Samples.{starred-hold}
 use Rattle.promises.specs.Editions.{Offered}
-use Rattle.promises.specs.Demands.{Mixed, TreeAccepted, Accepted, Faulted, KeywordNamed, TreeBlamed, Blamed, Kept, Again, TreeKept}
+use Rattle.promises.specs.Demands.{Mixed, TreeAccepted, Accepted, Faulted, KeywordNamed, LiteralPrintable, OtherByte, TreeBlamed, Blamed}
+use Rattle.promises.specs.Demands.{Kept, Again, TreeKept}
 use Rattle.promises.proofs.Editions.{checked-of}
 use Rattle.promises.proofs.Mixtures as mixtures
 use Rattle.promises.proofs.OtherCase as other-case
+use Rattle.promises.proofs.Literals as literals
 use Rattle.promises.proofs.Demand1 as demand-1
 use Rattle.promises.proofs.Demand2 as demand-2
 use Rattle.promises.proofs.Demand3 as demand-3
@@ -228,3 +230,14 @@ module _ (w : List ℕ) where
 
 pub token-keyword-named : (text table : List ℕ) → token-reply text table .number ≡ 5 → KeywordNamed text (token-reply text table)
 token-keyword-named = other-case.token-keyword-named
+
+-- Request A7, of every text, and so of the whole reader and the token part.
+
+module _ (text : List ℕ) where
+  -- where it splits into lexemes, each byte of a character or string literal is from 32 to 126;
+  pub literals-printable : (ts : List (List ℕ)) → tokens-of text ≡ tokens ts → (i : ℕ) → i < length ts → LiteralPrintable text (getD ts i [])
+  literals-printable = literals.literals-printable text
+
+  -- where its first fault is at the start of a literal, and any other byte stands behind that in the same line, it is reply 4 there
+  pub other-byte-bad : (f : Fault) → tokens-of text ≡ fault f → OtherByte text (row f .place) → row f ≡ rows.bad-literal (row f .place)
+  other-byte-bad = literals.other-byte-bad text

@@ -1,6 +1,6 @@
 -- Paper 01, "Try these stand-ins": readers that the words of the demands shut out. Each is shown from a promise alone, so that one that
 -- is weakened is noticed here. The accepted texts are starred samples; their trees differ in the first number.
-use Prim.Native.Nat.{ℕ, suc, _≤_, _<_}
+use Prim.Native.Nat.{ℕ, suc, _+_, _≤_, _<_}
 use mathlib.Core.Path.{_≡_, refl, ap, sym, subst, _∙_}
 use mathlib.Core.Bool.{Bool, true, false, false≢true, cond}
 use mathlib.Core.Logic.{inl, inr}
@@ -14,19 +14,23 @@ use Rattle.grammar.specs.Derivation.{kind-at}
 use Rattle.promises.specs.Editions.{edition-1}
 use Rattle.grammar.specs.Idl.{idl}
 use Rattle.replies.specs.declared.Reply.{Reply}
-use Rattle.tables.specs.Tables.{capacity, row, front, token-width, node-width}
+use Rattle.replies.specs.Faults as faults
+use Rattle.replies.specs.Faults.{Fault}
+use Rattle.tables.specs.Tables.{capacity, row, front, token-width, token-length, node-width}
+use Rattle.text.specs.Bytes.{at}
+use Rattle.text.specs.Tokens.{fault, tokens-of}
 use Rattle.text.specs.Words.{CaseAlone, spelled}
 use Rattle.meaning.specs.Deep.{first-too-deep}
 use Rattle.meaning.specs.Sense as sense
-use Rattle.meaning.specs.Sense.{means-tree, means-tokens, kind, tree-records}
+use Rattle.meaning.specs.Sense.{means-tree, means-tokens, kind, first, tree-records}
 use Rattle.meaning.specs.Verdict as verdict
 use Rattle.meaning.specs.Verdict.{full-tokens, judgement, text-verdict}
 use Rattle.meaning.specs.Answer.{tree-reply, text-reply}
 use Rattle.meaning.specs.Calls.{Answered}
 use Rattle.meaning.specs.Samples.{Row, tree-of, Holds, All, more, starred}
 use Rattle.meaning.proofs.Samples.{starred-hold}
-use Rattle.promises.specs.Demands.{Accepted, KeywordNamed, Blames, Kept, Again}
-use Rattle.promises.proofs.Main.{some-meaning}
+use Rattle.promises.specs.Demands.{Accepted, KeywordNamed, LiteralPrintable, IsLiteral, OtherByte, Blames, Kept, Again}
+use Rattle.promises.proofs.Main.{some-meaning, other-byte-bad}
 
 -- Demand 2.
 
@@ -146,3 +150,14 @@ module _ {text : List ℕ} {r : Reply} (k : KeywordNamed text r) where
       let c′ = subst (λ (at : ℕ). CaseAlone (spelled (drop at text)) (k′ .kind)) p (k′ .differs) in
       let n = c .alone (c′ .number) (c′ .in-list) (c′ .alike) in
       omega (arith, ap (λ (x : Reply). x .tokens) (k .said), ap (λ (x : Reply). x .tokens) (k′ .said), c .its-kind, c′ .its-kind)
+
+-- Request A7.
+
+-- one that takes a byte above 126 in a literal
+pub high-byte-taken : (text token : List ℕ) → LiteralPrintable text token → IsLiteral (kind token) → (n : ℕ) → n < getD token token-length 0 →
+    126 < at text (first token + n) → ⊥
+high-byte-taken text token p l n h b = omega (arith, p l n h .1)
+
+-- one that calls the literal open where it has one
+pub high-byte-open : (text : List ℕ) (f : Fault) → tokens-of text ≡ fault f → OtherByte text (faults.row f .place) → faults.row f .number ≡ 3 → ⊥
+high-byte-open text f e o z = omega (arith, ap (λ (x : Reply). x .number) (other-byte-bad text f e o))

@@ -1,10 +1,12 @@
 -- The demands in their words: what an acceptance, a fault and a grammar refusal say of the text, and how a second call follows from a first.
 -- Assumes nothing: these are definitions. That each call meets them is shown in proofs/; proofs/Main.antt is the page to read.
-use Prim.Native.Nat.{ℕ, _*_, _≤_, _<_}
+use Prim.Native.Char.{code}
+use Prim.Native.Nat.{ℕ, _+_, _*_, _≤_, _<_}
+use mathlib.Core.Bool.{true, false, _||_}
 use mathlib.Core.Path.{_≡_}
 use mathlib.Core.Logic.{_⊎_}
 use mathlib.Core.List.{List, map}
-use lib.ListN.{length, take, drop}
+use lib.ListN.{length, getD, take, drop}
 use Rattle.grammar.specs.Blame.{Blame}
 use Rattle.grammar.specs.Depth.{Within}
 use Rattle.grammar.specs.Derivation.{kind-at, Derivation}
@@ -14,10 +16,12 @@ use Rattle.kinds.specs.Kinds as kinds
 use Rattle.replies.specs.declared.Reply.{Reply}
 use Rattle.replies.specs.Replies as rows
 use Rattle.replies.specs.Faults.{Fault, row}
-use Rattle.tables.specs.Tables.{capacity, front, token-width, node-width}
+use Rattle.tables.specs.Tables.{capacity, front, token-width, token-length, node-width}
+use Rattle.text.specs.Bytes.{at, line-end, ended}
+use Rattle.text.specs.Literals.{quote}
 use Rattle.text.specs.Tokens.{tokens, fault, tokens-of}
 use Rattle.text.specs.Words.{CaseAlone, spelled}
-use Rattle.meaning.specs.Sense.{kind, tree-records}
+use Rattle.meaning.specs.Sense.{kind, first, tree-records}
 use Rattle.meaning.specs.Verdict as verdict
 use Rattle.meaning.specs.Verdict.{Verdict}
 use Rattle.meaning.specs.Answer.{place, tree-reply}
@@ -57,6 +61,30 @@ pub record KeywordNamed (text : List ℕ) (r : Reply) : Type 0 where
   pub kind : ℕ
   pub said : r ≡ rows.other-case place kind
   pub differs : CaseAlone (spelled (drop place text)) kind
+
+-- Request A7: a byte from 32 to 126
+abbrev pub Printable : ℕ → Type 0
+Printable b = (32 ≤ b) × (b ≤ 126)
+
+-- the kind of a character or string literal, narrow or wide
+abbrev pub IsLiteral : ℕ → Type 0
+IsLiteral k = (kinds.character ≤ k) × (k ≤ kinds.wide-string)
+
+-- each byte of a token that is such a literal is such a byte
+abbrev pub LiteralPrintable : (text token : List ℕ) → Type 0
+LiteralPrintable text token = IsLiteral (kind token) → (n : ℕ) → n < getD token token-length 0 → Printable (at text (first token + n))
+
+-- a literal starts here, with its quote or with the L before it
+pub data OpensLiteral (bs : List ℕ) : Type 0 where
+  opens-narrow : quote (at bs 0) ≡ true → OpensLiteral bs
+  opens-wide : at bs 0 ≡ code "L" → quote (at bs 1) ≡ true → OpensLiteral bs
+
+-- at place p of a text a literal starts, and a byte that is not printable stands behind that in the same line
+pub record OtherByte (text : List ℕ) (p : ℕ) : Type 0 where
+  pub opens : OpensLiteral (drop p text)
+  pub behind : ℕ
+  pub other : Printable (at (drop p text) behind) → ⊥
+  pub in-its-line : (n : ℕ) → n ≤ behind → line-end (at (drop p text) n) || ended (at (drop p text) n) ≡ false
 
 -- Demand 2, a grammar refusal of a list of tokens: it has this place of blame, and no opening mark before it exceeds the depth setting; the
 -- reply names the place and the tokens

@@ -1,3 +1,4 @@
+pub mod Choices
 pub mod Ranges
 pub mod Blocks
 pub mod Rests

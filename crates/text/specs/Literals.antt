@@ -1,4 +1,4 @@
--- Character and string literals: paper 01, "Character, string", and the order of faults inside one literal.
+-- Character and string literals: paper 01, "Character, string", which request A7 amends, and the order of faults inside one literal.
 -- Assumes nothing: these are definitions.
 use mathlib.Core.Bool.{Bool, true, false, _&&_, _||_, cond}
 use mathlib.Core.List.{List, [], _∷_}
@@ -14,9 +14,9 @@ use Rattle.text.specs.declared.Lexeme.the-variants.{Token, NoLexeme, Ope
 use Rattle.text.specs.declared.Piece.{Piece}
 use Rattle.text.specs.declared.Piece.the-variants.{Character, Zero, Close, Unclosed, Bad}
 
--- bytes that stand for themselves: 32 to 126 and 160 to 255
+-- bytes that stand for themselves: 32 to 126
 unfoldable pub plain : ℕ → Bool
-plain b = from 32 126 b || from 160 255 b
+plain b = from 32 126 b
 
 -- the letters after a backslash: n t v b r f a \ ? ' "
 unfoldable pub simple : ℕ → Bool

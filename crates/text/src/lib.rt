@@ -101,16 +101,11 @@ pub fn is_starless(byte: u8) -> bool
     byte != b'*'
 }
 
-// What ISO Latin-1 has above ASCII, its controls aside.
-const FIRST_LATIN: u8 = 160;
-
-const LAST_LATIN: u8 = 255;
-
 // A byte that stands for itself in a literal.
 pub fn is_plain(byte: u8) -> bool
     ensures { λ r. ⌜ r ≡ plain byte ⌝ }
 {
-    ((b' ' <= byte) & (byte <= b'~')) | ((FIRST_LATIN <= byte) & (byte <= LAST_LATIN))
+    (b' ' <= byte) & (byte <= b'~')
 }
 
 pub fn is_ordinary(byte: u8) -> bool

@@ -3,8 +3,9 @@
 use compare::{plain, spellings, token_part, tree_part, whole_reader, Numbers, Outcome};
 use generate::kind::{FIRST_KEYWORD, STRINGS, WIDE_STRING};
 use generate::Grammar;
-use ordinary::number::{ACCEPTED, BAD_CALL, KEYWORD_CASE, TOKEN_TABLE_FULL, TREE_TABLE_FULL};
+use ordinary::number::{ACCEPTED, BAD_CALL, BAD_LITERAL, KEYWORD_CASE, NO_LEXEME, TOKEN_TABLE_FULL, TREE_TABLE_FULL};
 use ordinary::{read, read_tokens, read_tree, spelling, DEPTH_CEILING, TEXT_CEILING, TOKEN_NUMBERS, TREE_NUMBERS};
+use std::ops::RangeInclusive;
 
 const CASES: usize = 20_000;
 
@@ -50,6 +51,41 @@ fn false_kinds_of_keywords_in_another_case() {
             named(plain(read(text, tokens, tree, depth)))
         }));
     }
+}
+
+/// The tokens read with these bytes taken in literals: one that makes a literal bad becomes a letter.
+fn taking(bytes: RangeInclusive<u8>, text: &[u8], tokens: &mut [u32]) -> Numbers {
+    let (mut text, lent) = (text.to_vec(), tokens.to_vec());
+    loop {
+        tokens.copy_from_slice(&lent);
+        let reply = plain(read_tokens(&text, tokens));
+        let literal = if reply[0] == BAD_LITERAL { &mut text[reply[1] as usize..] } else { &mut [] };
+        match literal.iter_mut().find(|byte| bytes.contains(byte)) {
+            Some(byte) => *byte = b'a',
+            None => return reply,
+        }
+    }
+}
+
+#[test]
+fn high_bytes_taken_in_literals() {
+    for bytes in [0xa0..=0xff, 0x7f..=0x9f] {
+        assert_noticed(token_part(1, CASES, |text, tokens| taking(bytes.clone(), text, tokens)));
+    }
+}
+
+#[test]
+fn high_bytes_refused_in_comments() {
+    assert_noticed(token_part(1, CASES, |text, tokens| {
+        let reply = plain(read_tokens(text, tokens));
+        match text.iter().position(|&byte| byte >= 0xa0) {
+            Some(place) if reply[0] == ACCEPTED => {
+                tokens.fill(0);
+                [NO_LEXEME, place as u32, 0, 0]
+            }
+            _ => reply,
+        }
+    }));
 }
 
 #[test]

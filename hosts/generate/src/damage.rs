@@ -4,7 +4,7 @@ use crate::kind::{self, FIRST_KEYWORD, LAST_MARK, STRINGS, WIDE_STRING};
 use crate::random::Random;
 
 /// Lexemes and beginnings of lexemes that readers get wrong.
-const TRICKY: [&[u8]; 64] = [
+const TRICKY: [&[u8]; 68] = [
     b"08",
     b"018",
     b"09e1",
@@ -68,6 +68,10 @@ const TRICKY: [&[u8]; 64] = [
     b"object",
     b"\x80",
     b"\x9f",
+    b"'\xa0'",
+    b"L\"\\xa0\xa0\"",
+    b"\"~\x7f",
+    b"//\xff",
     b"::::",
 ];
 

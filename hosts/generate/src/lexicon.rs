@@ -205,7 +205,7 @@ fn piece(rest: &[u8], quote: u8, wide: bool) -> Piece {
         [] | [b'\n' | b'\r', ..] => Piece::Fault(Fault::Open),
         [b'\\', escaped @ ..] => escape(escaped, wide),
         [byte, ..] if *byte == quote => Piece::Close,
-        [b' '..=b'~' | 0xa0..=0xff, ..] => Piece::Character { length: 1, number: None },
+        [b' '..=b'~', ..] => Piece::Character { length: 1, number: None },
         _ => Piece::Fault(Fault::BadLiteral),
     }
 }

@@ -161,12 +161,11 @@ fn fixed(random: &mut Random) -> Vec<u8> {
 
 /// One character of a literal, never character zero; an escape by number has all its digits.
 fn character(random: &mut Random, quote: u8, wide: bool) -> Vec<u8> {
-    match random.below(9) {
+    match random.below(8) {
         0 => [b'\\', *random.pick(b"ntvbrfa\\?'\"")].to_vec(),
         1 => [b"\\".to_vec(), some(b"123", 1, 1, random), some(OCTAL, 2, 2, random)].concat(),
         2 => [b"\\x".to_vec(), some(&HEX[1..], 2, 2, random)].concat(),
         3 if wide => [b"\\u".to_vec(), some(&HEX[1..], 4, 4, random)].concat(),
-        4 => vec![0xa0 + random.below(96) as u8],
         _ => {
             let byte = b' ' + random.below(95) as u8;
             vec![if byte == quote || byte == b'\\' { b' ' } else { byte }]

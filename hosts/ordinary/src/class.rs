@@ -70,9 +70,9 @@ const fn class(byte: u8) -> Class {
     }
 }
 
-/// Whether a byte is a character that a literal may hold: Latin-1 without its control characters.
+/// Whether a byte is a character that a literal may hold: ASCII without its control characters.
 pub const fn is_graphic(byte: u8) -> bool {
-    matches!(byte, b' '..=b'~' | 0xa0..=0xff)
+    matches!(byte, b' '..=b'~')
 }
 
 /// Whether a byte stands for itself in a string.

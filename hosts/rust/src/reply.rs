@@ -15,7 +15,8 @@ pub enum Reply {
     NoLexeme { place: usize },
     /// A comment that starts here is open at the end, or a literal is open at the end of its line.
     Open { place: usize },
-    /// The literal that starts here is bad.
+    /// The literal that starts here is bad. Bytes outside 32 to 126 make a character or string literal so; escapes reach
+    /// their values.
     BadLiteral { place: usize },
     /// The word that starts here differs from the keyword of this kind only in the case of letters. It is as long as
     /// the keyword, which [`crate::keyword`] spells.

@@ -16,7 +16,7 @@ character-fits : (c : tie.After-known-told) →
     args .read + c .before .next .given .0 .0 ≤ length (args .bs .now)
 character-fits c =
     let read = c .before .before .before in
-    past-character _ _ _ (read .before .before .before .args .bs .now) (read .piece .ensures) (omega arith) (c .before .next .given .1) .1
+    past-character _ _ _ (read .before .before .before .args .bs .now) (read .piece .ensures) (c .before .next .given .1) .1
 
 -- and after character zero
 zero-fits : (c : tie.After-known-told2) →
@@ -24,7 +24,7 @@ zero-fits : (c : tie.After-known-told2) →
     args .read + c .before .next2 .given .0 .0 ≤ length (args .bs .now)
 zero-fits c =
     let read = c .before .before .before in
-    past-zero _ _ _ (read .before .before .before .args .bs .now) (read .piece .ensures) (omega arith) (c .before .next2 .given .1) .1
+    past-zero _ _ _ (read .before .before .before .args .bs .now) (read .piece .ensures) (c .before .next2 .given .1) .1
 
 returns-3 : tie.Need-returns-3
 unfolding one-character

@@ -6,7 +6,7 @@ use borrow.Author.Tests.{ne-eqb}
 use lib.ListN.{length-take}
 use Rattle.text.specs.Bytes.{hexadecimal}
 use Rattle.text.specs.Literals.{digits, hexadecimal-escape}
-use Rattle.literals.proofs.Sizes.{digits-le}
+use Rattle.literals.proofs.Taken.{digits-le}
 use borrow.Author.Needs.{needs}
 use Rattle.literals.proofs.hexadecimal_escape.Statement.{statement}
 use Rattle.literals.proofs.hexadecimal_escape.Tie as tie

@@ -5,7 +5,7 @@ use native.Mathlib.Omega.{arith}
 use lib.ListN.{length-take}
 use Rattle.text.specs.Bytes.{octal}
 use Rattle.text.specs.Literals.{digits, above-377, octal-escape}
-use Rattle.literals.proofs.Sizes.{digits-le}
+use Rattle.literals.proofs.Taken.{digits-le}
 use borrow.Author.Needs.{needs}
 use Rattle.literals.proofs.octal_escape.Statement.{statement}
 use Rattle.literals.proofs.octal_escape.Tie as tie

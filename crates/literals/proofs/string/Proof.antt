@@ -47,7 +47,7 @@ on : (c : tie.After-known-told Inv-loop μ-loop) →
 on c =
     let at = c .before .before .before in
     let run = at .before .before in
-    past-character _ _ (place run) (run .before .before .before .before .args .bs .now) (at .piece .ensures) (omega arith) (c .before .next .given .1)
+    past-character _ _ (place run) (run .before .before .before .before .args .bs .now) (at .piece .ensures) (c .before .next .given .1)
 
 loop-again : tie.Need-loop-again Inv-loop μ-loop
 loop-again c =

@@ -1,4 +1,4 @@
--- `text::is_plain` meets its contract: the bytes that stand for themselves are 32 to 126 and 160 to 255.
+-- `text::is_plain` meets its contract: the bytes that stand for themselves are 32 to 126.
 -- The code tests the bounds that the definition tests. Assumes nothing.
 use mathlib.Core.Path.{refl}
 use Rattle.text.specs.Literals.{plain}
