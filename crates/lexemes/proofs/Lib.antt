@@ -1,2 +1,3 @@
 pub mod Sorting
+pub mod Sorts
 pub mod Sizes

@@ -1,6 +1,6 @@
 -- Every lexeme takes a byte at least, and none past the end of the text; where it is a keyword in another case, the word at the front is.
 -- By the tests of its first bytes: each kind of lexeme does so, and none but a word is refused for its case. Assumes nothing.
-use mathlib.Core.Bool.{true, _&&_, _||_}
+use mathlib.Core.Bool.{true}
 use mathlib.Core.List.{List, [], _∷_}
 use mathlib.Core.Path.{_≡_}
 use Prim.Native.Char.{code}
@@ -9,14 +9,14 @@ use native.Mathlib.Omega.{arith}
 use borrow.Author.Tests.{eqb-true}
 use lib.Dec.{eqb}
 use lib.ListN.{length}
-use Rattle.text.specs.Bytes.{end, at, run, space, letter, digit}
+use Rattle.text.specs.Bytes.{end, at, run, space}
 use Rattle.text.specs.Blanks.{line-comment, block-comment}
 use Rattle.text.specs.Lexemes.{mark, lexeme, starts}
-use Rattle.text.specs.Literals.{quote, literal, wide-literal}
+use Rattle.text.specs.Literals.{literal, wide-literal}
 use Rattle.text.specs.Numbers.{number}
 use Rattle.text.specs.Words.{CaseAlone, spelled, escaped-word}
 use Rattle.text.specs.declared.Lexeme.the-variants.{Blank}
-use Rattle.text.proofs.Choices.{both, choose}
+use Rattle.text.proofs.Choices.{both}
 use Rattle.text.proofs.Rests.{byte-inside}
 use Rattle.text.proofs.Runs.{run-within}
 use Rattle.text.proofs.Sizes.{SizedOr, Sized, sized-or}
@@ -25,6 +25,7 @@ use Rattle.literals.proofs.Reach.{literal-sized, wide-literal-sized}
 use Rattle.marks.proofs.Reach.{mark-sized}
 use Rattle.numbers.proofs.Within.{number-sized}
 use Rattle.words.proofs.Sizes.{word-sized, escaped-word-sized}
+use Rattle.lexemes.proofs.Sorts.{by-sort}
 
 space-sized : (bs : List ℕ) → 0 < length bs → space (at bs 0) ≡ true → Sized (length bs) (Blank (run space bs))
 unfolding run
@@ -38,19 +39,11 @@ two-bytes x y bs h e =
     byte-inside bs 1 (omega arith)
 
 pub lexeme-sized : (bs : List ℕ) → 0 < length bs → SizedOr (CaseAlone (spelled bs)) (length bs) (lexeme bs)
-unfolding lexeme
 lexeme-sized bs h =
-    let P = SizedOr (CaseAlone (spelled bs)) (length bs) in
     let other = sized-or (CaseAlone (spelled bs)) (length bs) in
-    choose P (space (at bs 0)) (space-sized bs h)
-    (choose P (starts (code "/") (code "/") bs)
+    by-sort bs (SizedOr (CaseAlone (spelled bs)) (length bs)) (space-sized bs h)
     (λ e. other (line-comment bs) (line-comment-sized bs (two-bytes (code "/") (code "/") bs (omega arith) e)))
-    (choose P (starts (code "/") (code "*") bs)
     (λ e. other (block-comment bs) (block-comment-sized bs (two-bytes (code "/") (code "*") bs (omega arith) e)))
-    (choose P (quote (at bs 0)) (λ e. other (literal bs) (literal-sized bs e))
-    (choose P (eqb (at bs 0) (code "L") && quote (at bs 1))
-    (λ e. other (wide-literal bs) (wide-literal-sized bs h (both (eqb (at bs 0) (code "L")) (quote (at bs 1)) e .1)))
-    (choose P (letter (at bs 0)) (λ e. word-sized bs e)
-    (choose P (eqb (at bs 0) (code "_") && letter (at bs 1)) (λ _. other (escaped-word bs) (escaped-word-sized bs h))
-    (choose P (digit (at bs 0) || eqb (at bs 0) (code ".")) (λ _. other (number bs) (number-sized bs))
-    (other (mark bs) (mark-sized bs)))))))))
+    (λ e. other (literal bs) (literal-sized bs e)) (λ e f. other (wide-literal bs) (wide-literal-sized bs h f))
+    (word-sized bs) (other (escaped-word bs) (escaped-word-sized bs h)) (other (number bs) (number-sized bs))
+    (other (mark bs) (mark-sized bs))

@@ -1,32 +1,36 @@
--- Request A7: each byte of a literal is printable, and a literal that comes to a byte from 127 to 255 is bad.
+-- Request A7: each byte of a literal is printable, and a literal that comes to any other byte in its line is bad.
 -- A literal takes no bytes but those that stand for themselves, and no other lexeme has a literal's kind.
-use mathlib.Core.Bool.{Bool, true, false, _&&_, _||_, false≢true}
+use mathlib.Core.Bool.{Bool, true, false, _||_, false≢true}
 use mathlib.Core.List.{List, [], _∷_}
-use mathlib.Core.Path.{_≡_, refl, sym, ap, subst, subst⁻¹, _∙_}
+use mathlib.Core.Logic.{inl, inr}
+use mathlib.Core.Path.{_≡_, refl, sym, ap, subst, _∙_}
 use Prim.Native.Char.{code}
 use Prim.Native.Nat.{ℕ, zero, suc, _+_, _-_, _≤_, _<_, max}
 use Prim.Native.String.{String}
 use native.Mathlib.Omega.{arith}
 use borrow.Author.Tests.{ltb-true, ltb-false, leb-true, leb-false, eqb-true}
-use lib.Dec.{leb, ltb, eqb}
+use lib.Dec.{leb, ltb}
 use lib.ListN.{length, drop, getD}
-use lib.Seq.{getD-drop, drop-drop}
+use lib.Seq.{getD-drop}
 use Rattle.kinds.specs.Kinds as kinds
 use Rattle.replies.specs.Replies as rows
 use Rattle.replies.specs.Faults.{Fault, row}
-use Rattle.text.specs.Bytes.{at, end, run, space, letter, digit, wordly, line-end, ended}
+use Rattle.text.specs.Bytes.{at, end, run, wordly, line-end, ended}
 use Rattle.text.specs.Blanks.{line-comment, to-close, closed, block-comment}
-use Rattle.text.specs.Lexemes.{starts, lexeme, mark}
+use Rattle.text.specs.Lexemes.{lexeme, mark}
 use Rattle.text.specs.Literals.{plain, quote, quoted, literal, wide-literal}
 use Rattle.text.specs.Numbers.{followed, longest, number, integer, floating, fixed}
-use Rattle.text.specs.Tokens.{Tokens, tokens, fault, token, before, then, tokens-in, tokens-of}
+use Rattle.text.specs.Tokens.{Tokens, tokens, fault, token, before, then, tokens-of}
 use Rattle.text.specs.Words.{keyword-but-case, spelled, sorted, word, escaped-word}
 use Rattle.text.specs.declared.Lexeme.{Lexeme}
 use Rattle.text.specs.declared.Lexeme.the-variants.{Blank, Token, NoLexeme, Open, BadLiteral, OtherCase}
-use Rattle.text.proofs.Choices.{both, either, choose}
+use Rattle.text.proofs.Choices.{either, choose}
 use Rattle.text.proofs.Rests.{past-end}
 use Rattle.literals.proofs.Taken.{bounds, Taken, taken-none, taken-one, taken-more, taken-within, LeftOpen}
 use Rattle.literals.proofs.Reach.{quoted-says}
+use Rattle.lexemes.proofs.Sorting.{quote-literal, wide-quote}
+use Rattle.lexemes.proofs.Sorts.{by-sort}
+use Rattle.tokens.proofs.Lexemes.{by-lexemes}
 use Rattle.promises.specs.Demands.{Printable, IsLiteral, LiteralPrintable, OpensLiteral, opens-narrow, opens-wide, OtherByte}
 
 printable : (b : ℕ) → plain b ≡ true → Printable b
@@ -63,11 +67,9 @@ module _ (bs : List ℕ) where
   quoted-plain : (wide : Bool) (n : ℕ) → Taken bs n → quote (at bs n) ≡ true → Here (quoted wide n bs)
   quoted-plain = quoted-says bs (Taken bs) Here (taken-within bs) (λ n m. taken-more bs n) (λ k n h l. h) (λ n h o. tt) tt
 
-  wide-plain : eqb (at bs 0) (code "L") && quote (at bs 1) ≡ true → Here (wide-literal bs)
+  wide-plain : at bs 0 ≡ code "L" → quote (at bs 1) ≡ true → Here (wide-literal bs)
   unfolding wide-literal plain
-  wide-plain e =
-      let w = both (eqb (at bs 0) (code "L")) (quote (at bs 1)) e in
-      quoted-plain true 1 (taken-one bs (ap plain (eqb-true (at bs 0) (code "L") (w .0)))) (w .1)
+  wide-plain e f = quoted-plain true 1 (taken-one bs (ap plain e)) f
 
   block-comment-plain : Here (block-comment bs)
   unfolding block-comment closed
@@ -107,16 +109,10 @@ module _ (bs : List ℕ) where
       (choose Here (ltb 0 (kinds.mark one)) (λ e. one-mark-plain one 1) tt)
 
   lexeme-plain : Here (lexeme bs)
-  unfolding lexeme line-comment literal word escaped-word
+  unfolding line-comment literal word escaped-word
   lexeme-plain =
-      choose Here (space (at bs 0)) (λ e. tt)
-      (choose Here (starts (code "/") (code "/") bs) (λ e. tt)
-      (choose Here (starts (code "/") (code "*") bs) (λ e. block-comment-plain)
-      (choose Here (quote (at bs 0)) (λ e. quoted-plain false 0 (taken-none bs) e)
-      (choose Here (eqb (at bs 0) (code "L") && quote (at bs 1)) (λ e. wide-plain e)
-      (choose Here (letter (at bs 0)) (λ e. sorted-plain (spelled bs) (run wordly bs))
-      (choose Here (eqb (at bs 0) (code "_") && letter (at bs 1)) (λ e l. absurd (omega arith))
-      (choose Here (digit (at bs 0) || eqb (at bs 0) (code ".")) (λ e. number-plain) mark-plain)))))))
+      by-sort bs Here (λ e. tt) (λ e. tt) (λ e. block-comment-plain) (λ e. quoted-plain false 0 (taken-none bs) e) wide-plain
+      (λ e. sorted-plain (spelled bs) (run wordly bs)) (λ l. absurd (omega arith)) number-plain mark-plain
 
 -- a token that ends before place n, or a bad literal
 abbrev EndsOrBad : ℕ → Lexeme → Type 0
@@ -127,16 +123,7 @@ EndsOrBad n NoLexeme = ⊥
 EndsOrBad n Open = ⊥
 EndsOrBad n (OtherCase k) = ⊥
 
--- a literal is the lexeme that starts with its quote or its L
-narrow-lexeme : (bs : List ℕ) → quote (at bs 0) ≡ true → literal bs ≡ lexeme bs
-unfolding lexeme space quote
-narrow-lexeme bs = either _ _ (λ e. simp (eqb-true (at bs 0) (code "'") e)) (λ e. simp (eqb-true (at bs 0) (code "\"") e))
-
-wide-lexeme : (bs : List ℕ) → at bs 0 ≡ code "L" → quote (at bs 1) ≡ true → wide-literal bs ≡ lexeme bs
-unfolding lexeme space quote
-wide-lexeme bs e f = simp (e, f)
-
--- the line goes on to a byte that stands not for itself
+-- the line goes on to a byte that does not stand for itself
 module _ (bs : List ℕ) (high : ℕ) (other : plain (at bs high) ≡ false)
     (in-line : (n : ℕ) → n ≤ high → line-end (at bs n) || ended (at bs n) ≡ false) where
   not-passed : (n m : ℕ) → n ≤ high → Taken (drop n bs) m → n + m ≤ high
@@ -179,9 +166,11 @@ module _ (bs : List ℕ) (high : ℕ) (other : plain (at bs high) ≡ false)
       quoted-says bs (λ n. n ≤ high) (EndsOrBad high) (λ n h. omega (arith, stands)) not-passed (λ k n h. h) not-open tt
 
   ends-or-bad : OpensLiteral bs → EndsOrBad high (lexeme bs)
-  unfolding literal wide-literal
-  ends-or-bad (opens-narrow e) = subst (EndsOrBad high) (narrow-lexeme bs e) (quoted-ends false 0 (omega arith) e)
-  ends-or-bad (opens-wide e f) = subst (EndsOrBad high) (wide-lexeme bs e f) (quoted-ends true 1 (not-first e) f)
+  unfolding literal wide-literal quote
+  ends-or-bad (opens-narrow e) =
+      subst (EndsOrBad high) (quote-literal bs (either _ _ (λ q. inr (eqb-true _ _ q)) (λ q. inl (eqb-true _ _ q)) e))
+      (quoted-ends false 0 (omega arith) e)
+  ends-or-bad (opens-wide e f) = subst (EndsOrBad high) (wide-quote bs e f) (quoted-ends true 1 (not-first e) f)
 
 -- the lexemes of a text: the literals among its tokens, and a fault where such a byte stands in a literal
 module _ (text : List ℕ) where
@@ -209,19 +198,11 @@ module _ (text : List ℕ) where
   one-lexeme place rest BadLiteral p e more = λ b. refl
   one-lexeme place rest (OtherCase k) p e more = λ b. absurd (e b)
 
-  each-lexeme : (most place : ℕ) (bs : List ℕ) → bs ≡ drop place text → Said (tokens-in most place bs)
-  unfolding tokens-in
-  each-lexeme zero place bs d = λ i l. absurd (omega arith)
-  each-lexeme (suc most) place [] d = λ i l. absurd (omega arith)
-  each-lexeme (suc most) place (b ∷ bs) d =
-      one-lexeme place (λ n. tokens-in most (place + n) (drop n (b ∷ bs))) (lexeme (b ∷ bs)) (rw (sym d) (lexeme-plain (b ∷ bs)))
-      (λ o. subst⁻¹ (λ (cs : List ℕ). EndsOrBad (o .behind) (lexeme cs)) d
-      (ends-or-bad (drop place text) (o .behind) (not-plain _ (o .other)) (o .in-its-line) (o .opens)))
-      (λ n. each-lexeme most (place + n) (drop n (b ∷ bs)) (ap (drop n) d ∙ drop-drop n place text))
-
   said : Said (tokens-of text)
-  unfolding tokens-of
-  said = each-lexeme (length text) 0 text refl
+  said =
+      by-lexemes text (λ place. Said) (λ place i l. absurd (omega arith))
+      (λ place h rest more. one-lexeme place rest (lexeme (drop place text)) (lexeme-plain (drop place text))
+      (λ o. ends-or-bad (drop place text) (o .behind) (not-plain _ (o .other)) (o .in-its-line) (o .opens)) more)
 
   pub literals-printable : (ts : List (List ℕ)) → tokens-of text ≡ tokens ts → (i : ℕ) → i < length ts → LiteralPrintable text (getD ts i [])
   literals-printable ts e = subst Said e said

@@ -1,3 +1,4 @@
+pub mod Lexemes
 pub mod Answers
 pub mod Order
 pub mod Scans

@@ -1,20 +1,21 @@
 -- The tokens of a text lie inside it in order, so they are at most as many as its bytes.
--- By induction on the lexemes: each takes a byte at least, and none past the end. Assumes nothing.
-use mathlib.Core.List.{List, [], _∷_}
+-- Lexeme by lexeme: each takes a byte at least, and none past the end. Assumes nothing.
+use mathlib.Core.List.{List}
 use mathlib.Core.Path.{_≡_, refl, subst}
-use Prim.Native.Nat.{ℕ, zero, suc, _+_, _≤_, _<_}
+use Prim.Native.Nat.{ℕ, _+_, _≤_, _<_}
 use native.Mathlib.Nat.{le-refl, le-trans, le-add-right}
 use native.Mathlib.Omega.{arith}
 use lib.ListN.{length, drop, length-drop}
 use Rattle.tables.specs.Tables.{token-width, Records, none as no-records, more as more-records}
 use Rattle.text.specs.Lexemes.{lexeme}
-use Rattle.text.specs.Tokens.{Tokens, tokens, token, before, then, tokens-in, tokens-of}
+use Rattle.text.specs.Tokens.{Tokens, tokens, token, before, then, tokens-of}
 use Rattle.text.specs.Words.{CaseAlone, spelled}
 use Rattle.text.specs.declared.Lexeme.{Lexeme}
 use Rattle.text.specs.declared.Lexeme.the-variants.{Blank, Token, NoLexeme, Open, BadLiteral, OtherCase}
 use Rattle.tokens.specs.Order.{InOrder, none, next, Ordered, ordered, faulty}
 use Rattle.text.proofs.Sizes.{SizedOr}
 use Rattle.lexemes.proofs.Sizes.{lexeme-sized}
+use Rattle.tokens.proofs.Lexemes.{by-lexemes}
 
 sooner : {from start to : ℕ} {ts : Tokens} → from ≤ start → Ordered start to ts → Ordered from to ts
 sooner h (ordered (none e)) = ordered (none (le-trans h e))
@@ -26,35 +27,33 @@ unfolding before
 one-more kind s (ordered o) = ordered (next (le-refl _) s o)
 one-more kind s faulty = faulty
 
-module _ (place : ℕ) (bs : List ℕ) (rest : ℕ → Tokens) (more : (n : ℕ) → Ordered (place + n) (place + n + length (drop n bs)) (rest n)) where
-  after : (n : ℕ) → n ≤ length bs → Ordered (place + n) (place + length bs) (rest n)
-  after n h =
-      let e : place + n + length (drop n bs) ≡ place + length bs = omega (arith, length-drop n bs) in
-      subst (λ (to : ℕ). Ordered (place + n) to (rest n)) e (more n)
+module _ (text : List ℕ) where
+  abbrev Rest : ℕ → Tokens → Type 0
+  Rest place = Ordered place (place + length (drop place text))
 
-  one-lexeme : (l : Lexeme) → SizedOr (CaseAlone (spelled bs)) (length bs) l → Ordered place (place + length bs) (then l place rest)
-  unfolding then
-  one-lexeme (Blank n) w = sooner (omega arith) (after n (w .1))
-  one-lexeme (Token kind n) w = one-more kind (w .0) (after n (w .1))
-  one-lexeme NoLexeme w = faulty
-  one-lexeme Open w = faulty
-  one-lexeme BadLiteral w = faulty
-  one-lexeme (OtherCase kind) w = faulty
+  module _ (place : ℕ) (rest : ℕ → Tokens) (more : (n : ℕ) → Rest (place + n) (rest n)) where
+    after : (n : ℕ) → n ≤ length (drop place text) → Ordered (place + n) (place + length (drop place text)) (rest n)
+    after n h =
+        let e : place + n + length (drop (place + n) text) ≡ place + length (drop place text) =
+        omega (arith, h, length-drop (place + n) text, length-drop place text) in
+        subst (λ (to : ℕ). Ordered (place + n) to (rest n)) e (more n)
 
-in-order : (most place : ℕ) (bs : List ℕ) → Ordered place (place + length bs) (tokens-in most place bs)
-unfolding tokens-in
-in-order zero place bs = ordered (none (le-add-right _ _))
-in-order (suc most) place [] = ordered (none (le-add-right _ _))
-in-order (suc most) place (b ∷ bs) =
-    one-lexeme place (b ∷ bs) (λ n. tokens-in most (place + n) (drop n (b ∷ bs))) (λ n. in-order most (place + n) (drop n (b ∷ bs)))
-    (lexeme (b ∷ bs)) (lexeme-sized (b ∷ bs) (omega arith))
+    one-lexeme : (l : Lexeme) → SizedOr (CaseAlone (spelled (drop place text))) (length (drop place text)) l → Rest place (then l place rest)
+    unfolding then
+    one-lexeme (Blank n) w = sooner (omega arith) (after n (w .1))
+    one-lexeme (Token kind n) w = one-more kind (w .0) (after n (w .1))
+    one-lexeme NoLexeme w = faulty
+    one-lexeme Open w = faulty
+    one-lexeme BadLiteral w = faulty
+    one-lexeme (OtherCase kind) w = faulty
 
--- the tokens of a text lie inside it in order
-pub tokens-ordered : (text : List ℕ) → Ordered 0 (length text) (tokens-of text)
-unfolding tokens-of
-tokens-ordered text =
-    let e : 0 + length text ≡ length text = omega arith in
-    subst (λ (to : ℕ). Ordered 0 to (tokens-of text)) e (in-order (length text) 0 text)
+  -- the tokens of a text lie inside it in order
+  pub tokens-ordered : Ordered 0 (length text) (tokens-of text)
+  tokens-ordered =
+      let e : 0 + length text ≡ length text = omega arith in
+      subst (λ (to : ℕ). Ordered 0 to (tokens-of text)) e
+      (by-lexemes text Rest (λ place. ordered (none (le-add-right _ _)))
+      (λ place h rest more. one-lexeme place rest more (lexeme (drop place text)) (lexeme-sized (drop place text) h)))
 
 in-order-few : {from to : ℕ} {ts : List (List ℕ)} → InOrder from to ts → from + length ts ≤ to
 in-order-few (none e) = omega arith
