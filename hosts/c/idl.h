@@ -2,7 +2,7 @@
  * A proved reader of CORBA IDL (rules 1 to 99: the language with value types).
  *
  * A call lends a text, and tables of 32-bit numbers that the reader fills. Lengths of tables are counted in numbers.
- * The reader takes no memory besides and keeps none of these pointers. No pointer is null, also where its length is
+ * The reader takes no memory besides, but for the stack, and keeps none of these pointers. No pointer is null, also where its length is
  * 0; a table that is filled overlaps nothing else that is lent.
  *
  * A token record is three numbers: kind, first byte, length in bytes. A tree record is four: rule of the grammar,
@@ -23,7 +23,10 @@ extern "C" {
 
 /* The longest text in bytes, and the largest depth setting; the smallest is 1. */
 #define IDL_TEXT_CEILING 1048576
-#define IDL_DEPTH_CEILING 64
+#define IDL_DEPTH_CEILING 200
+
+/* A call needs at most 164 KB of stack at depth 200, where a KB is 1,024 bytes, and less at smaller settings. */
+#define IDL_STACK_KB 164
 
 #define IDL_TOKEN_NUMBERS 3
 #define IDL_TREE_NUMBERS 4
@@ -37,7 +40,7 @@ extern "C" {
  */
 enum idl_number {
     IDL_ACCEPTED = 0,         /* place: text length; both counts */
-    IDL_BAD_CALL = 1,         /* text too long, or depth setting outside 1 to 64; place 0, counts 0 */
+    IDL_BAD_CALL = 1,         /* text too long, or depth setting outside 1 to 200; place 0, counts 0 */
     IDL_NO_LEXEME = 2,        /* no lexeme starts at this place; counts 0 */
     IDL_OPEN = 3,             /* comment open at the end, or literal open at the end of its line; place: its start */
     IDL_BAD_LITERAL = 4,      /* bad literal, also by a byte outside 32 to 126; place: its start; counts 0 */

@@ -18,6 +18,12 @@
 #define KINDS_TRIED (3u << 16)
 #define LENGTH(array) (sizeof(array) / sizeof *(array))
 
+/* A constant in parentheses: one level more than the ceiling at most. */
+#define NESTED_BEFORE "const long A = "
+#define NESTED_TOKENS(depth) (6 + 2 * (depth))
+#define NESTED_RECORDS(depth) (5 + (depth))
+#define DEEPEST (IDL_DEPTH_CEILING + 1)
+
 static void demand(int holds, const char *what) {
     if (!holds) {
         fprintf(stderr, "%s\n", what);
@@ -163,7 +169,7 @@ static void test_spelling(enum stand stand) {
 
 static void test_tree(const struct row *row, enum stand stand) {
     const size_t text_len = strlen(row->text);
-    uint32_t numbers[64];
+    uint32_t numbers[IDL_TOKEN_NUMBERS * NESTED_TOKENS(DEEPEST)];
     const idl_reply first = idl_read_tokens((const uint8_t *)row->text, text_len, numbers, LENGTH(numbers));
     if (first.number != IDL_ACCEPTED || row->reply.number == IDL_TOKEN_TABLE_FULL) {
         return;
@@ -194,6 +200,41 @@ static void test_reader(const struct row *row, enum stand stand) {
     give_back(text);
 }
 
+/* The reply that a constant in so many parentheses gets at a depth setting. */
+static idl_reply nested_reply(uint32_t depth, uint32_t setting, size_t text_len) {
+    const uint32_t tokens = NESTED_TOKENS(depth);
+    if (setting < 1 || setting > IDL_DEPTH_CEILING) {
+        return (idl_reply){IDL_BAD_CALL, 0, 0, 0};
+    }
+    if (depth > setting) {
+        return (idl_reply){IDL_TOO_DEEP, (uint32_t)strlen(NESTED_BEFORE) + setting, tokens, 0};
+    }
+    return (idl_reply){IDL_ACCEPTED, (uint32_t)text_len, tokens, NESTED_RECORDS(depth)};
+}
+
+/* Depths around the ceiling, at settings around it. */
+static void test_nested(enum stand stand) {
+    const uint32_t depths[] = {150, 199, 200, 201};
+    const uint32_t settings[] = {64, 200, 201, UINT32_MAX};
+    char text[sizeof NESTED_BEFORE + 2 * DEEPEST + sizeof "1;"];
+    for (size_t at = 0; at < LENGTH(depths) * LENGTH(settings); at++) {
+        const uint32_t depth = depths[at / LENGTH(settings)], setting = settings[at % LENGTH(settings)];
+        char *const opening = text + strlen(strcpy(text, NESTED_BEFORE));
+        memset(opening, '(', depth);
+        opening[depth] = '1';
+        memset(opening + depth + 1, ')', depth);
+        strcpy(opening + 2 * depth + 1, ";");
+        const uint32_t text_len = (uint32_t)strlen(text);
+        const struct row row = {
+            text, IDL_TOKEN_NUMBERS * NESTED_TOKENS(depth), IDL_TREE_NUMBERS * NESTED_RECORDS(depth), setting,
+            {IDL_ACCEPTED, text_len, NESTED_TOKENS(depth), 0}, nested_reply(depth, setting, text_len),
+        };
+        test_tokens(&row, stand);
+        test_tree(&row, stand);
+        test_reader(&row, stand);
+    }
+}
+
 /* Demands the right spelling of a kind: a keyword's, or none. */
 static void test_keyword(uint32_t kind, uint32_t first, size_t count, char **keywords) {
     const char *const found = idl_keyword(kind);
@@ -216,6 +257,7 @@ int main(int count, char **words) {
     test_keywords((uint32_t)strtoul(words[1], NULL, 10), (size_t)count - 2, words + 2);
     for (int stand = HEAP; stand < STANDS; stand++) {
         test_spelling(stand);
+        test_nested(stand);
         for (size_t at = 0; at < LENGTH(ROWS); at++) {
             test_tokens(&ROWS[at], stand);
             test_tree(&ROWS[at], stand);

@@ -3,7 +3,8 @@
 use super::reader::number::{ACCEPTED, GRAMMAR, TOO_DEEP, TREE_TABLE_FULL};
 use super::reader::{read_tree, Reply, DEPTH_CEILING, TREE_NUMBERS};
 use generate::cases::{depth, table_length};
-use generate::kind::{CLOSING, FIRST_KEYWORD, LAST_MARK, OPENING};
+use generate::kind::{FIRST_KEYWORD, LAST_MARK};
+use generate::nest::first_too_deep;
 use generate::sentence::Sentences;
 use generate::{Cases, Chart, Grammar, Meaning, Random};
 
@@ -19,8 +20,7 @@ fn answer(meaning: &Meaning, grammar: &Grammar, kinds: &[u32], room: usize, dept
         Meaning::Blame(token) => *token,
         Meaning::Records(_) => kinds.len(),
     };
-    let marks = |spellings: [&str; 4]| spellings.map(|spelling| grammar.kinds.of(spelling));
-    if let Some(token) = first_too_deep(&kinds[..blame], marks(OPENING), marks(CLOSING), depth) {
+    if let Some(token) = first_too_deep(&kinds[..blame], depth, grammar) {
         return reply(TOO_DEEP, token, 0);
     }
     match meaning {
@@ -28,22 +28,6 @@ fn answer(meaning: &Meaning, grammar: &Grammar, kinds: &[u32], room: usize, dept
         Meaning::Records(records) if records.len() > room => reply(TREE_TABLE_FULL, kinds.len(), records.len()),
         Meaning::Records(records) => reply(ACCEPTED, kinds.len(), records.len()),
     }
-}
-
-fn first_too_deep(kinds: &[u32], opening: [u32; 4], closing: [u32; 4], depth: u32) -> Option<usize> {
-    let mut open = 0;
-    for (token, kind) in kinds.iter().enumerate() {
-        if opening.contains(kind) {
-            open += 1;
-        }
-        if closing.contains(kind) {
-            open -= 1;
-        }
-        if open > depth {
-            return Some(token);
-        }
-    }
-    None
 }
 
 /// The place of a token; that of the end is the length of the text.

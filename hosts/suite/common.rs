@@ -1,6 +1,6 @@
 //! What the tests share: a call with ample tables, and a refusal of both parts.
 
-use super::reader::number::ACCEPTED;
+use super::reader::number::{ACCEPTED, BAD_CALL};
 use super::reader::{read, read_tokens, Reply, DEPTH_CEILING, TOKEN_NUMBERS, TREE_NUMBERS};
 
 /// The bit in which the two cases of a letter differ.
@@ -8,6 +8,9 @@ pub const CASE: u8 = b'a' ^ b'A';
 
 /// Number, place and the two counts of a reply.
 pub type Numbers = (u32, u32, u32, u32);
+
+/// The numbers of the reply to a bad call.
+pub const REFUSED_CALL: Numbers = (BAD_CALL, 0, 0, 0);
 
 pub struct Outcome {
     pub reply: Reply,

@@ -1,6 +1,6 @@
 //! What the papers mean by a derivation and its records, where a reader could stumble.
 
-use super::common::{numbers_of, outcome, outcome_at};
+use super::common::{numbers_of, outcome, outcome_at, REFUSED_CALL};
 use super::reader::number::{ACCEPTED, BAD_CALL, GRAMMAR, TOO_DEEP, TREE_TABLE_FULL};
 use super::reader::{read_tree, DEPTH_CEILING, TEXT_CEILING, TREE_NUMBERS};
 use generate::kind::IDENTIFIER;
@@ -103,11 +103,10 @@ fn the_tree_part_alone() {
     assert_eq!(call(&[native + 256, u32::MAX, 1], 1, 5, deep), (GRAMMAR, u32::MAX, 1, 0));
     let whole = [native, 0, 1, IDENTIFIER, 0, 1, semicolon, 0, 1];
     assert_eq!(call(&whole, 3, 3, deep), (TREE_TABLE_FULL, 3, 3, 4));
-    let bad_call = (BAD_CALL, 0, 0, 0);
-    assert_eq!(call(&[native, 77], 1, 5, deep), bad_call);
-    assert_eq!(call(&[native, 77, 1], 1, 0, deep), bad_call);
-    assert_eq!(call(&[native, 77, 1], 1, TEXT_CEILING + 1, deep), bad_call);
+    assert_eq!(call(&[native, 77], 1, 5, deep), REFUSED_CALL);
+    assert_eq!(call(&[native, 77, 1], 1, 0, deep), REFUSED_CALL);
+    assert_eq!(call(&[native, 77, 1], 1, TEXT_CEILING + 1, deep), REFUSED_CALL);
     assert_eq!(call(&[native, 77, 1], 1, TEXT_CEILING, deep), (GRAMMAR, TEXT_CEILING as u32, 1, 0));
-    assert_eq!(call(&[native, 77, 1], 1, 5, DEPTH_CEILING + 1), bad_call);
-    assert_eq!(call(&[native, 77, 1], 1, 5, 0), bad_call);
+    assert_eq!(call(&[native, 77, 1], 1, 5, DEPTH_CEILING + 1), REFUSED_CALL);
+    assert_eq!(call(&[native, 77, 1], 1, 5, 0), REFUSED_CALL);
 }

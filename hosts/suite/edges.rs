@@ -1,7 +1,7 @@
 //! Limits: short tables, the ceilings of text and depth, every rule and every kind.
 
-use super::common::{numbers_of, outcome, outcome_at, Numbers};
-use super::reader::number::{ACCEPTED, BAD_CALL, TOKEN_TABLE_FULL, TOO_DEEP, TREE_TABLE_FULL};
+use super::common::{numbers_of, outcome, outcome_at, REFUSED_CALL};
+use super::reader::number::{ACCEPTED, TOKEN_TABLE_FULL, TOO_DEEP, TREE_TABLE_FULL};
 use super::reader::{read, DEPTH_CEILING, TEXT_CEILING, TOKEN_NUMBERS, TREE_NUMBERS};
 use generate::kind;
 use generate::sentence::Sentences;
@@ -53,9 +53,6 @@ fn text_ceiling() {
     assert_eq!(numbers_of(read(&text, &mut tokens, &mut tree, DEPTH_CEILING)), REFUSED_CALL);
     assert_eq!((tokens, tree), before);
 }
-
-/// Number, place and counts of the reply to a bad call.
-const REFUSED_CALL: Numbers = (BAD_CALL, 0, 0, 0);
 
 /// A constant with so many parentheses around it.
 fn nested(depth: u32) -> Vec<u8> {

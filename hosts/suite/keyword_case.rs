@@ -1,7 +1,7 @@
 //! A keyword in another case is refused with the keyword's kind: request A3.
 
-use super::common::{assert_refused, assert_refused_into, numbers_of, outcome, tokens, CASE, FILLER};
-use super::reader::number::{ACCEPTED, BAD_CALL, BAD_LITERAL, KEYWORD_CASE, NO_LEXEME, OPEN};
+use super::common::{assert_refused, assert_refused_into, numbers_of, outcome, tokens, CASE, FILLER, REFUSED_CALL};
+use super::reader::number::{ACCEPTED, BAD_LITERAL, KEYWORD_CASE, NO_LEXEME, OPEN};
 use super::reader::{read, read_tokens, DEPTH_CEILING, TEXT_CEILING, TOKEN_NUMBERS, TREE_NUMBERS};
 use generate::kind::{IDENTIFIER, MARKS};
 use generate::Grammar;
@@ -113,11 +113,10 @@ fn it_comes_before_the_grammar_the_depth_and_full_tables() {
 #[test]
 fn a_bad_call_comes_before_it() {
     let (mut tokens, mut tree) = ([FILLER; TOKEN_NUMBERS], [FILLER; TREE_NUMBERS]);
-    let refused_call = (BAD_CALL, 0, 0, 0);
     let too_long = format!("Factory{}", " ".repeat(TEXT_CEILING));
-    assert_eq!(numbers_of(read_tokens(too_long.as_bytes(), &mut tokens)), refused_call);
+    assert_eq!(numbers_of(read_tokens(too_long.as_bytes(), &mut tokens)), REFUSED_CALL);
     for (text, depth) in [("Factory", 0), ("Factory", DEPTH_CEILING + 1), (too_long.as_str(), DEPTH_CEILING)] {
-        assert_eq!(numbers_of(read(text.as_bytes(), &mut tokens, &mut tree, depth)), refused_call);
+        assert_eq!(numbers_of(read(text.as_bytes(), &mut tokens, &mut tree, depth)), REFUSED_CALL);
     }
     assert_eq!((tokens, tree), ([FILLER; TOKEN_NUMBERS], [FILLER; TREE_NUMBERS]));
 }

@@ -5,6 +5,7 @@ use crate::reader;
 mod chart;
 mod common;
 mod corpus;
+mod depth;
 mod derivations;
 mod edges;
 mod keyword_case;

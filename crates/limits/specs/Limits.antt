@@ -10,9 +10,9 @@ use Rattle.limits.specs.declared.Bounded.the-variants.{Good, Beyond}
 abbrev pub text-ceiling : ℕ
 text-ceiling = 1048576
 
--- "Depth setting: 1 to 64."
+-- "Depth setting: 1 to 64", which A10 raises to 200
 abbrev pub depth-ceiling : ℕ
-depth-ceiling = 64
+depth-ceiling = 200
 
 -- a text of n bytes is not too long
 abbrev pub good-text : (n : ℕ) → Bool

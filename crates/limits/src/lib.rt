@@ -16,7 +16,7 @@ pub enum Bounded {
 impl Limits {
     pub const TEXT: usize = 1 << 20;
 
-    pub const DEPTH: u32 = 64;
+    pub const DEPTH: u32 = 200;
 
     // Whether a text of so many bytes is within its ceiling.
     pub fn takes(text: usize) -> bool

@@ -27,7 +27,7 @@ use Rattle.meaning.specs.Verdict as verdict
 use Rattle.meaning.specs.Verdict.{full-tokens, judgement, text-verdict}
 use Rattle.meaning.specs.Answer.{tree-reply, text-reply}
 use Rattle.meaning.specs.Calls.{Answered}
-use Rattle.meaning.specs.Samples.{Row, tree-of, Holds, All, more, starred}
+use Rattle.meaning.specs.Samples.{Row, tree-of, usual, ample, Holds, All, more, starred}
 use Rattle.meaning.proofs.Samples.{starred-hold}
 use Rattle.promises.specs.Demands.{Accepted, KeywordNamed, LiteralPrintable, IsLiteral, OtherByte, Blames, Kept, Again}
 use Rattle.promises.proofs.Main.{some-meaning, other-byte-bad}
@@ -93,7 +93,7 @@ module _ {table tree : List ℕ} {setting : ℕ} {r : Reply} {table′ tree′ :
 
 -- "one that refuses everything": `native A;` is accepted with the sample table's room
 pub refuses-everything : {table tree : List ℕ} {r : Reply} {table′ tree′ : List ℕ} →
-    Answered idl (bytes "native A;") table tree 64 r table′ tree′ → capacity token-width table ≡ 64 → capacity node-width tree ≡ 64 →
+    Answered idl (bytes "native A;") table tree usual r table′ tree′ → capacity token-width table ≡ ample → capacity node-width tree ≡ ample →
     r .number ≡ 0
 unfolding starred Holds
 refuses-everything {table} {tree} a c k =

@@ -22,7 +22,7 @@ part-reader = tables (pNum w64 ∷ pNum w64 ∷ pNum w32 ∷ [])
 
 -- more than any rank
 abbrev pub ranks : ℕ
-ranks = 64
+ranks = 32
 
 abbrev pub ranked : ℕ → Measures 2 reader ℕ
 ranked rank κs a = ranks * a .1 .1 .1 .0 + rank

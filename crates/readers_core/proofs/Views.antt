@@ -1,6 +1,6 @@
 -- A reader's state in one number: what each step of the code does to its parts.
 -- By the arithmetic of its halves. Assumes nothing.
-use Prim.Native.Nat.{ℕ, _+_, _-_, _*_, _/_, _%_, _^_, _≤_, _<_}
+use Prim.Native.Nat.{ℕ, _+_, _-_, _*_, _/_, _%_, _≤_, _<_}
 use native.Mathlib.Omega.{arith}
 use mathlib.Core.Path.{_≡_, refl, sym, _∙_, subst}
 use mathlib.Core.Bool.{Bool, true, false, not, cond}
@@ -8,6 +8,10 @@ use lib.Dec.{T, eqb, leb, leb→le, nleb→lt}
 use borrow.Author.Tests.{eq-eqb, ne-eqb, lt-ltb, le-ltb}
 use Rattle.tables.specs.Tables.{token-width}
 use Rattle.readers_core.specs.Reading.{blaming, sunk, half, stop, step, deep-rest, blamed, too-deep, view, ceiling}
+
+-- more than any state: as many as two halves make
+abbrev pub whole : ℕ
+whole = half * half
 
 pub goes-on : (s : ℕ) → s < stop → view s .answer ≡ 0
 goes-on s h = rw (lt-ltb s stop h) refl
@@ -111,6 +115,6 @@ module _ (s : ℕ) (low : view s .count < ceiling) where
     started-at = sym (going-at start (omega (arith, low, le)))
 
     -- and the records since a start are those that the difference counts
-    pub counted-since : view start .at ≤ view s .at → {n : ℕ} → n < 2 ^ 64 → (n + start) % 2 ^ 64 ≡ s + half →
+    pub counted-since : view start .at ≤ view s .at → {n : ℕ} → n < whole → (n + start) % whole ≡ s + half →
         view n .count ≡ view s .count + 1 - view start .count
     counted-since le′ h e = omega (arith, low, le, le′, started-at, going-at s goes-below, h, e)

@@ -13,7 +13,7 @@ use Rattle.prediction.specs.plans.Plan.{token, call, wrap}
 use Rattle.prediction.specs.Interpreter.{Outcome, Runs, run-wrap}
 use Rattle.readers_core.specs.Course.{one, table-in}
 use Rattle.readers_core.specs.Reading.{kind-at, ahead, view, State, seen, Ends, ends-done, From, nothing, several, Reads}
-use Rattle.readers_core.specs.Reading.{Takes, Closes}
+use Rattle.readers_core.specs.Reading.{Within, Takes, Closes}
 use Rattle.readers_core.proofs.Choosing.{among, except, any-elem, elem-any}
 use Rattle.readers_core.proofs.Frames.{ahead-kind, ahead-none, frame-by, going}
 use Rattle.readers_core.proofs.Repetition.{Far, far-here, far-more, far-over, falls, remaining}
@@ -21,7 +21,7 @@ use Rattle.readers_core.proofs.Sequence.{_▸_, unrecorded}
 use Rattle.readers_core.proofs.Sharing.{at-home}
 use Rattle.readers_core.proofs.Frames.{coming}
 use Rattle.readers_expressions.specs.Levels.{loosest, tightest, operand, operators, further-operand, level-of}
-use Rattle.readers_expressions.proofs.Operations.{Level, at-level, apart, of-level, operates, Found, leveled}
+use Rattle.readers_expressions.proofs.Operations.{at-level, apart, of-level, operates, Found, level}
 
 -- in the repetition of level l: its first operand was read from s, and further ones up to t
 pub record Open (ks : List ℕ) (d l : ℕ) (s t : State) : Type 0 where
@@ -96,34 +96,39 @@ same-ahead ks {r} {start} {s} {s′} x = go (going (view (s .0) .answer))
         let y = at-home x (view start, []) refl refl .stays n in
         sym (ahead-none ks (s′ .0) (λ e. n (sym (y .answers) ∙ e))) ∙ ahead-none ks (s .0) n
 
--- one turn: an operator x of level k, its right operand, and the node of all since `start`
-module _ {ks : List ℕ} {d k x start t m o u : ℕ} {w w′ w″ : List ℕ} (low : loosest ≤ k) (e : x ≡ ahead ks t)
-    (e′ : k ≡ level-of x) (takes : Takes ks (token x) t m) (reads : Reads one ks d (call (k + 1)) (m, w) (o, w′))
-    (closes : Closes k start (o, w′) (u, w″)) where
-  its : Found k x
-  its = leveled k x e′ low
+-- where an operator x of level k is next
+module _ {ks : List ℕ} {k x t : ℕ} (found : Found k x) (e : x ≡ ahead ks t) where
+  -- one turn: the operator, its right operand, and the node of all since `start`, behind which no tighter operator is next
+  module _ {d start m o u : ℕ} {w w′ w″ : List ℕ} (takes : Takes ks (token x) t m)
+      (reads : Reads one ks d (call (k + 1)) (m, w) (o, w′)) (closes : Closes k start (o, w′) (u, w″)) where
+    pub operates-on : Within one ks d start (further-operand k) (t, w) (u, w″)
+    unfolding computing
+    operates-on = record {
+      of-any = λ hs. coming (among (x ∷ [])) e refl (operates x (level found) (found .has))
+          ((takes .reads d w .in-any start hs ▸ reads .in-any start _) ▸
+          closes .wraps refl ks d _ (level found .together));
+    }
 
-  at : Level k
-  at = at-level k low (its .high)
+    pub stays-looser : level-of (ahead ks o) < k + 1 → level-of (ahead ks u) ≤ k
+    stays-looser h =
+        let same = ap level-of (same-ahead ks (closes .wraps refl ks 0 several (level found .together))) in
+        omega (arith, same, h)
 
-  turn : (hs : List ℕ) → From one ks d start hs (further-operand k) (t, w) (u, w″)
-  unfolding computing
-  turn hs =
-      coming (among (x ∷ [])) e refl (operates x at (its .has))
-      ((takes .reads d w .in-any start hs ▸ reads .in-any start _) ▸ closes .wraps refl ks d _ (at .together))
+  -- what it does: less is left to read, and all is ready for what is next then
+  module _ {d start u : ℕ} {w w′ : List ℕ} (turn : Within one ks d start (further-operand k) (t, w) (u, w′)) where
+    pub less : remaining ks u < remaining ks t
+    unfolding computing
+    less =
+        falls (among (operators k)) e (elem-any (operators k) x (found .has)) (level found .goes-on) (turn .of-any)
 
-  pub less : remaining ks u < remaining ks t
-  unfolding computing
-  less = falls (among (operators k)) e (elem-any (operators k) x (its .has)) (at .goes-on) turn
-
-  pub climbed : {w₀ : List ℕ} (level : ℕ) → loosest ≤ level → level ≤ k → level-of (ahead ks o) < k + 1 →
-      Ready ks d level (start, w₀) (t, w) → Ready ks d level (start, w₀) (u, w″)
-  unfolding computing
-  climbed level above le looser r =
-      let before = r .on e e′ le in
-      let same = ap level-of (same-ahead ks (closes .wraps refl ks 0 several (at .together))) in
-      turned level k above le (its .high) (omega (arith, same, looser)) (record {
-        first = before .first;
-        operand = before .operand;
-        far = far-more (among (operators k)) e (elem-any (operators k) x (its .has)) (at .goes-on) turn (before .far);
-      })
+    pub climbed : {w₀ : List ℕ} (lowest : ℕ) → loosest ≤ lowest → lowest ≤ k → level-of (ahead ks u) ≤ k →
+        Ready ks d lowest (start, w₀) (t, w) → Ready ks d lowest (start, w₀) (u, w′)
+    unfolding computing
+    climbed lowest above le looser r =
+        let before = r .on e (sym (of-level x (level found) (found .has))) le in
+        turned lowest k above le (found .high) (omega (arith, looser)) (record {
+          first = before .first;
+          operand = before .operand;
+          far = far-more (among (operators k)) e (elem-any (operators k) x (found .has)) (level found .goes-on)
+              (turn .of-any) (before .far);
+        })

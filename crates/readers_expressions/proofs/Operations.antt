@@ -111,16 +111,23 @@ level-found : (x : ℕ) → (level-of x ≡ 0) ⊎ Found (level-of x) x
 unfolding level-of
 level-found x = first-found x loosest (operand - loosest) (omega arith) (omega arith)
 
+-- the level that it is found at
+pub level : {n x : ℕ} → Found n x → Level n
+level {n} f = at-level n (f .low) (f .high)
+
 pub leveled : (k x : ℕ) → k ≡ level-of x → loosest ≤ k → Found k x
 leveled k x e low =
     ⊎-elim (λ z. absurd (omega (arith, e, z))) (λ f. subst (λ (n : ℕ). Found n x) (sym e) f) (level-found x)
 
 pub operator-kind : (k x : ℕ) → k ≡ level-of x → loosest ≤ k → IsKind x
 operator-kind k x e low =
-    let f = leveled k x e low in omega (arith, between x (at-level k (f .low) (f .high)) (f .has))
+    let f = leveled k x e low in omega (arith, between x (level f) (f .has))
 
 pub bounded : (x : ℕ) → level-of x < operand
 bounded x = ⊎-elim (λ e. omega (arith, e)) (λ f. omega (arith, f .high)) (level-found x)
+
+pub below-operand : (k x : ℕ) → k ≡ level-of x → k < operand
+below-operand k x e = omega (arith, e, bounded x)
 
 -- the kinds from one to another are of one level, by a computed test; outside of all operators a kind is of none
 pub in-row : (n first last x : ℕ) → T (each (λ k. eqb n (level-of k)) (row first (suc (last - first)))) →
@@ -130,7 +137,7 @@ in-row n first last x u h l =
     (any-elem (row first (suc (last - first))) x (any-row first (last - first) x h (omega arith))))
 
 pub outside : (x : ℕ) → (x < first-operator) ⊎ (last-operator < x) → 0 ≡ level-of x
-outside x h = ⊎-elim sym (λ f. absurd (far (between x (at-level (level-of x) (f .low) (f .high)) (f .has)))) (level-found x)
+outside x h = ⊎-elim sym (λ f. absurd (far (between x (level f) (f .has)))) (level-found x)
   where
     far : (first-operator ≤ x) × (x ≤ last-operator) → ⊥
     far b = ⊎-elim (λ u. omega (arith, u, b .0)) (λ u. omega (arith, u, b .1)) h

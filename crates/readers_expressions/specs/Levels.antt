@@ -2,17 +2,26 @@
 -- Assumes nothing: these are definitions.
 use Prim.Native.Nat.{ℕ, _+_, _-_}
 use mathlib.Core.List.{List, [], _∷_}
-use mathlib.Core.Bool.{cond}
+use mathlib.Core.Bool.{Bool, true, false, cond}
+use mathlib.Core.Path.{_≡_}
 use lib.ListN.{getD}
 use Rattle.kinds.specs.Lists.{kinds-of, only}
 use Rattle.grammar.specs.Names.{rule}
 use Rattle.grammar.specs.Sets.{elem}
 use Rattle.prediction.specs.plans.Plan.{Plan, token, call, wrap, seq, alt, skip}
 use Rattle.prediction.specs.Sets.{row}
+use Rattle.readers_core.specs.Course.{one}
+use Rattle.readers_core.specs.Notation.{<_>}
+use Rattle.readers_core.specs.Reading.{State, Flat}
 
 -- the unary operators
 abbrev pub signs : List ℕ
 signs = kinds-of ("-" ∷ "+" ∷ "~" ∷ [])
+
+-- the sign of an operand is read where it has one, and else nothing
+pub record Signs (ks : List ℕ) (signed : Bool) (s s′ : State) : Type 0 where
+  pub reads : signed ≡ true → Flat one ks < "unary_operator" > s s′
+  pub stays : signed ≡ false → s′ ≡ s
 
 -- the first level and the last, and the rule of their operands
 abbrev pub loosest : ℕ

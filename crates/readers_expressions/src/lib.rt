@@ -1,12 +1,14 @@
-// Readers of constant expressions. The six levels of binary operators, (30) to (35), are one reader over the level.
+// Readers of constant expressions. The six levels of binary operators, (30) to (35), are one reader over the level. An
+// expression stands within another in two places, `parenthesized` and `operation`. The compiler takes both into `binary`, where
+// they share their room on the stack.
 ghost use mathlib.Core.Path.{_≡_};
 ghost use Prim.Native.Nat.{_≤_, _<_};
 ghost use Rattle.prediction.specs.plans.Plan.{call};
 ghost use Rattle.grammar.specs.Names.{rule};
 ghost use Rattle.readers_core.specs.Notation.{<_>, _⟨_⟩_};
 ghost use Rattle.readers_core.specs.Course.{one};
-ghost use Rattle.readers_core.specs.Reading.{ahead, Addressable, Reads};
-ghost use Rattle.readers_expressions.specs.Levels.{level-of};
+ghost use Rattle.readers_core.specs.Reading.{ahead, Addressable, Within, Reads};
+ghost use Rattle.readers_expressions.specs.Levels.{Signs, further-operand, level-of};
 use grammar::rule;
 use kinds::kind;
 use readers_core::Reading;
@@ -64,14 +66,13 @@ fn primary(tokens: &[u32], tree: &mut [u32], at: Reading, depth: u32) -> Reading
     }
 }
 
-// (36) unary_expr, with its (37) unary_operator
-fn unary(tokens: &[u32], tree: &mut [u32], at: Reading, depth: u32) -> Reading
+// (37) unary_operator, where an operand is signed.
+fn sign(tokens: &[u32], tree: &mut [u32], at: Reading, signed: bool) -> Reading
     requires { ⌜ Addressable (now tokens) ⌝ }
-    ensures { λ r. ⌜ Reads one (now (tokens .entry)) depth (< "unary_expr" >) (at, now (tree .entry)) (r, now (tree .exit)) ⌝ }
+    ensures { λ r. ⌜ Signs (now (tokens .entry)) signed (at, now (tree .entry)) (r, now (tree .exit)) ⌝ }
 {
-    let next = next_kind(tokens, at);
-    if is_one_of(next, kind::MINUS, kind::PLUS, kind::TILDE) {
-        let sign = one_of_three(
+    if signed {
+        return one_of_three(
             &*tokens,
             tree,
             at,
@@ -80,14 +81,45 @@ fn unary(tokens: &[u32], tree: &mut [u32], at: Reading, depth: u32) -> Reading
             kind::TILDE,
             rule::UNARY_OPERATOR,
         );
-        let operand = primary(&*tokens, tree, sign, depth);
-        return node(tree, at, operand, rule::UNARY_EXPR);
     }
-    primary(&*tokens, tree, at, depth)
+    at
 }
 
-// (30) to (36): operands, and the operators between them of this level and above. Each makes all before it one node, once
-// its right operand is read, which holds only tighter operators.
+// (36) unary_expr
+fn unary(tokens: &[u32], tree: &mut [u32], at: Reading, depth: u32) -> Reading
+    requires { ⌜ Addressable (now tokens) ⌝ }
+    ensures { λ r. ⌜ Reads one (now (tokens .entry)) depth (< "unary_expr" >) (at, now (tree .entry)) (r, now (tree .exit)) ⌝ }
+{
+    let next = next_kind(tokens, at);
+    let signed = is_one_of(next, kind::MINUS, kind::PLUS, kind::TILDE);
+    let behind = sign(&*tokens, tree, at, signed);
+    let operand = primary(&*tokens, tree, behind, depth);
+    if signed {
+        return node(tree, at, operand, rule::UNARY_EXPR);
+    }
+    operand
+}
+
+// An operator of the level, and its right operand, which holds only tighter ones: all since `start` becomes one node.
+fn operation(
+    tokens: &[u32],
+    tree: &mut [u32],
+    start: Reading,
+    at: Reading,
+    depth: u32,
+    level: u32,
+) -> Reading
+    requires { ⌜ Addressable (now tokens) × (level ≡ level-of (ahead (now tokens) at)) × (rule "or_expr" ≤ level) ⌝ }
+    ensures { λ r. ⌜ Within one (now (tokens .entry)) depth start (further-operand level) (at, now (tree .entry)) (r, now (tree .exit)) ⌝ }
+    ensures looser { λ r. ⌜ level-of (ahead (now (tokens .entry)) r) ≤ level ⌝ }
+{
+    let next = next_kind(tokens, at);
+    let operator = take(tokens, at, next);
+    let operand = binary(&*tokens, tree, operator, depth, level + 1);
+    node(tree, start, operand, level)
+}
+
+// (30) to (36): operands, and the operators between them of this level and above.
 fn binary(tokens: &[u32], tree: &mut [u32], at: Reading, depth: u32, level: u32) -> Reading
     requires { ⌜ Addressable (now tokens) × (rule "or_expr" ≤ level) × (level ≤ rule "unary_expr") ⌝ }
     ensures { λ r. ⌜ Reads one (now (tokens .entry)) depth (call level) (at, now (tree .entry)) (r, now (tree .exit)) ⌝ }
@@ -95,14 +127,11 @@ fn binary(tokens: &[u32], tree: &mut [u32], at: Reading, depth: u32, level: u32)
 {
     let mut value = unary(&*tokens, tree, at, depth);
     loop {
-        let next = next_kind(tokens, value);
-        let found = level_of(next);
+        let found = level_of(next_kind(tokens, value));
         if found < level {
             return value;
         }
-        let operator = take(tokens, value, next);
-        let operand = binary(&*tokens, tree, operator, depth, found + 1);
-        value = node(tree, at, operand, found);
+        value = operation(&*tokens, tree, at, value, depth, found);
     }
 }
 

@@ -134,6 +134,18 @@ fn ceilings_off_by_one() {
 }
 
 #[test]
+fn the_depth_ceiling_before_it_was_raised() {
+    const BEFORE: u32 = 64;
+    assert_noticed(whole_reader(1, CASES, |text, tokens, tree, depth| {
+        plain(read(text, tokens, tree, if depth > BEFORE { 0 } else { depth }))
+    }));
+    assert_noticed(tree_part(1, CASES, |tokens, count, length, tree, depth| {
+        let setting = if depth > DEPTH_CEILING { depth } else { depth.min(BEFORE) };
+        plain(read_tree(tokens, count, length, tree, setting))
+    }));
+}
+
+#[test]
 fn kinds_compared_by_their_low_part() {
     for mask in [0xff, 0xffff, 0x7fff_ffff] {
         assert_noticed(tree_part(1, CASES, |tokens, count, length, tree, depth| {

@@ -2,14 +2,14 @@
 
 use crate::damage::{any_kind, damage_kinds, damage_text, no_kind, raw_bytes};
 use crate::grammar::Grammar;
-use crate::nest::{nested, WAYS};
+use crate::nest::NESTS;
 use crate::random::Random;
 use crate::sentence::Sentences;
 use crate::text::{spell, Layout};
 
 /// The limits of a reader, and the numbers of a token record and of a tree record.
 const TEXT_CEILING: usize = 1_048_576;
-const DEPTH_CEILING: u32 = 64;
+const DEPTH_CEILING: u32 = 200;
 pub const TOKEN_NUMBERS: usize = 3;
 pub const TREE_NUMBERS: usize = 4;
 
@@ -57,7 +57,8 @@ impl<'a> Cases<'a> {
     /// A valid list of kinds, mostly short, now and then nested up to the depth ceiling or past it.
     fn kinds(&self, random: &mut Random) -> Vec<u32> {
         if random.once_in(40) {
-            return nested(random.below(WAYS), random.below(70), self.grammar);
+            let depth = random.below(DEPTH_CEILING as usize + 6);
+            return random.pick(&NESTS).kinds(depth, self.grammar);
         }
         let size = *random.pick(&[1, 4, 10, 25, 60, 150]);
         self.sentences.kinds(random, size, 60)
@@ -129,14 +130,15 @@ pub fn table_length(exact: usize, random: &mut Random) -> usize {
 }
 
 /// Depth settings out of range; the low part of some is in range.
-const BAD_DEPTHS: [u32; 7] =
-    [0, DEPTH_CEILING + 1, DEPTH_CEILING + 2, 200, DEPTH_CEILING + 256, DEPTH_CEILING + 65536, u32::MAX];
+const BAD_DEPTHS: [u32; 6] =
+    [0, DEPTH_CEILING + 1, DEPTH_CEILING + 2, DEPTH_CEILING + 256, DEPTH_CEILING + 65536, u32::MAX];
 
-/// A depth setting, mostly ample, now and then out of range.
+/// A depth setting, mostly ample, often small, now and then anywhere in its range or out of it.
 pub fn depth(random: &mut Random) -> u32 {
     match random.below(12) {
         0 => *random.pick(&BAD_DEPTHS),
-        1..=4 => 1 + random.below(5) as u32,
+        1 => 1 + random.below(DEPTH_CEILING as usize) as u32,
+        2..=4 => 1 + random.below(5) as u32,
         _ => DEPTH_CEILING,
     }
 }

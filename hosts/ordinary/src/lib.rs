@@ -6,7 +6,7 @@
 //! ```
 //! let mut tokens = [0; 9];
 //! let mut tree = [0; 16];
-//! let reply = ordinary::read(b"native A;", &mut tokens, &mut tree, 64);
+//! let reply = ordinary::read(b"native A;", &mut tokens, &mut tree, 1);
 //! assert_eq!(reply, ordinary::Reply { number: 0, place: 9, tokens: 3, records: 4 });
 //! assert_eq!(tree[..4], [51, 1, 2, 1]);
 //! assert_eq!(ordinary::spelling(b"native A;", &tokens, 1), b"A");
@@ -28,7 +28,7 @@ use parse::{Parser, Stop};
 /// The longest text, in bytes.
 pub const TEXT_CEILING: usize = 1_048_576;
 /// The largest depth setting.
-pub const DEPTH_CEILING: u32 = 64;
+pub const DEPTH_CEILING: u32 = 200;
 /// The numbers of a token record.
 pub const TOKEN_NUMBERS: usize = 3;
 /// The numbers of a tree record.

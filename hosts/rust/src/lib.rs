@@ -24,7 +24,7 @@ pub mod raw;
 mod reply;
 mod table;
 
-pub use raw::{spelling, DEPTH_CEILING, TEXT_CEILING, TOKEN_NUMBERS, TREE_NUMBERS};
+pub use raw::{spelling, DEPTH_CEILING, STACK_KB, TEXT_CEILING, TOKEN_NUMBERS, TREE_NUMBERS};
 pub use reply::Reply;
 pub use table::{keyword, kind_name, outline, records, rule_name, tokens, Record, Token};
 
@@ -49,24 +49,24 @@ pub fn read_tokens(text: &[u8], tokens: &mut [u32]) -> Reply {
 /// ```
 /// let tokens = [42, 0, 6, 1, 7, 1, 64, 8, 1];
 /// let mut tree = [0; 16];
-/// assert_eq!(idl::read_tree(&tokens, 3, 9, &mut tree, 64), idl::Reply::Accepted { tokens: 3, records: 4 });
+/// assert_eq!(idl::read_tree(&tokens, 3, 9, &mut tree, 1), idl::Reply::Accepted { tokens: 3, records: 4 });
 /// assert_eq!(tree[..4], [51, 1, 2, 1]);
-/// assert_eq!(idl::read_tree(&tokens, 2, 9, &mut tree, 64), idl::Reply::Grammar { place: 9, tokens: 2 });
+/// assert_eq!(idl::read_tree(&tokens, 2, 9, &mut tree, 1), idl::Reply::Grammar { place: 9, tokens: 2 });
 /// ```
 pub fn read_tree(tokens: &[u32], token_count: usize, text_length: usize, tree: &mut [u32], depth: u32) -> Reply {
     raw::read_tree(tokens, token_count, text_length, tree, depth).into()
 }
 
-/// Reads a whole text into the two tables; `depth` bounds the nesting and is 1 to 64.
+/// Reads a whole text into the two tables; `depth` bounds the nesting and is 1 to [`DEPTH_CEILING`].
 ///
 /// ```
 /// let text = b"interface Factory { };";
-/// let reply = idl::read(text, &mut [0; 30], &mut [0; 40], 64);
+/// let reply = idl::read(text, &mut [0; 30], &mut [0; 40], idl::DEPTH_CEILING);
 /// assert_eq!(reply, idl::Reply::KeywordCase { place: 10, kind: 33 });
 /// assert_eq!(reply.to_string(), "this differs only in case from the keyword 'factory'");
 /// assert!(reply.blames_text());
 ///
-/// let reply = idl::read(b"native A;", &mut [0; 30], &mut [0; 4], 64);
+/// let reply = idl::read(b"native A;", &mut [0; 30], &mut [0; 4], idl::DEPTH_CEILING);
 /// assert_eq!(reply, idl::Reply::TreeTableFull { tokens: 3, records: 4 });
 /// assert!(!reply.blames_text());
 /// ```

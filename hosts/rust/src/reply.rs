@@ -9,7 +9,7 @@ use std::fmt;
 pub enum Reply {
     /// The text is accepted, and the tables hold this many records at their front.
     Accepted { tokens: usize, records: usize },
-    /// The text is too long, or the depth setting is outside 1 to 64. The tables are as they were.
+    /// The text is too long, or the depth setting is outside 1 to [`crate::DEPTH_CEILING`]. The tables are as they were.
     BadCall,
     /// No lexeme starts here.
     NoLexeme { place: usize },

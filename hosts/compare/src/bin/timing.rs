@@ -1,4 +1,4 @@
-//! Times the proved reader and the ordinary one in one run, and measures the stack of their deepest calls.
+//! Times the proved reader and the ordinary one in one run.
 //!
 //! Times are microseconds for a text, the best of many rounds in which the readers take turns. A ratio is the proved
 //! reader's time over the ordinary one's: that of the best times, and that of the medians. Small texts are timed in
@@ -7,7 +7,6 @@
 
 use compare::{plain, plain_proved, tokens_needed, Numbers};
 use generate::corpus::{CORPORA, SCANNER};
-use generate::nest::{nested, WAYS};
 use generate::sentence::Sentences;
 use generate::text::{spell, Layout};
 use generate::{Grammar, Random};
@@ -252,28 +251,6 @@ fn print_times(rows: &[Row]) {
     println!("\nLargest ratio of the whole reader: of best times {}, of medians {}.", largest(0), largest(1));
 }
 
-fn print_stack(grammar: &Grammar) {
-    let mut deepest = [0; 2];
-    for way in 0..WAYS {
-        let text = spell(&nested(way, DEPTH as usize, grammar), grammar, Layout::Tidy, &mut Random::new(1));
-        let mut tokens = vec![0; TOKEN_NUMBERS * text.len()];
-        let mut tree = vec![0; 2 * TREE_NUMBERS * text.len()];
-        let mut replies = [0; 2];
-        let theirs = compare::stack::of_call(&mut || {
-            replies[0] = ordinary::read(&text, &mut tokens, &mut tree, DEPTH).number;
-        });
-        let ours = compare::stack::of_call(&mut || {
-            replies[1] = idl::raw::read(&text, &mut tokens, &mut tree, DEPTH).number;
-        });
-        assert_eq!(replies[0], replies[1], "the readers agree");
-        deepest = [deepest[0].max(theirs), deepest[1].max(ours)];
-    }
-    println!(
-        "\nStack of the deepest call at depth {DEPTH}: ordinary {} bytes, proved {} bytes.",
-        deepest[0], deepest[1]
-    );
-}
-
 fn main() {
     let grammar = Grammar::published();
     let mut rows = rows(&grammar);
@@ -281,5 +258,4 @@ fn main() {
         rows.iter_mut().for_each(time_parts);
     }
     print_times(&rows);
-    print_stack(&grammar);
 }
