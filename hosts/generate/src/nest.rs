@@ -14,10 +14,12 @@ pub struct Nest {
     after: &'static str,
 }
 
-/// An operator of each level, the loosest first, before a parenthesis; and before no more.
+/// An operator of each level, the loosest first, before a parenthesis, and before the last operand: the most that a
+/// reader of expressions has to remember.
 const OPERATORS: &[&str] = &["1 | 1 ^ 1 & 1 << 1 + 1 * - ("];
-const OPERATION: &str = "1 | 1 ^ 1 & 1 << 1 + 1 * - 1";
+const OPERATION: &str = "1 | 1 ^ 1 & 1 << 1 + 1 * - A";
 
+/// What stands behind a first member or case, where readers of repetitions are under way.
 const STRUCT: &str = "struct A { any A ;";
 const UNION: &str = "union A switch ( A ) { case 1 : any A ; default :";
 const MODULE: &[&str] = &["module A {"];
@@ -25,7 +27,7 @@ const MODULE: &[&str] = &["module A {"];
 pub const NESTS: [Nest; 11] = [
     Nest { name: "parentheses", before: "const long A =", opens: &["("], middle: "1", closes: ")", after: ";" },
     Nest {
-        name: "parentheses behind an operator of each level",
+        name: "operators and parentheses",
         before: "const long A =",
         opens: OPERATORS,
         middle: OPERATION,
@@ -33,7 +35,7 @@ pub const NESTS: [Nest; 11] = [
         after: ";",
     },
     Nest {
-        name: "the same in the brackets of an array",
+        name: "operators and parentheses in array brackets",
         before: "typedef any A [",
         opens: OPERATORS,
         middle: OPERATION,
@@ -41,7 +43,7 @@ pub const NESTS: [Nest; 11] = [
         after: "] ;",
     },
     Nest {
-        name: "the same in an argument list",
+        name: "operators and parentheses in an argument list",
         before: "interface A { void A ( in string <",
         opens: OPERATORS,
         middle: OPERATION,
