@@ -2,8 +2,8 @@
  * A proved reader of CORBA IDL (rules 1 to 99: the language with value types).
  *
  * A call lends a text, and tables of 32-bit numbers that the reader fills. Lengths of tables are counted in numbers.
- * The reader takes no memory besides, but for the stack, and keeps none of these pointers. No pointer is null, also where its length is
- * 0; a table that is filled overlaps nothing else that is lent.
+ * The reader takes no memory besides, only stack, and keeps none of these pointers. No pointer is null, also where its
+ * length is 0; a table that is filled overlaps nothing else that is lent.
  *
  * A token record is three numbers: kind, first byte, length in bytes. A tree record is four: rule of the grammar,
  * first token, one past the last token, records in its subtree with itself; children stand before their parent, left

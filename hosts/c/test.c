@@ -18,7 +18,7 @@
 #define KINDS_TRIED (3u << 16)
 #define LENGTH(array) (sizeof(array) / sizeof *(array))
 
-/* A constant in parentheses: one level more than the ceiling at most. */
+/* A constant in parentheses: what stands before them, its tokens and tree records, and the most that is tried. */
 #define NESTED_BEFORE "const long A = "
 #define NESTED_TOKENS(depth) (6 + 2 * (depth))
 #define NESTED_RECORDS(depth) (5 + (depth))

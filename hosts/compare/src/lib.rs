@@ -17,6 +17,19 @@ pub const REPLIES: usize = number::TREE_TABLE_FULL as usize + 1;
 /// How many cases got each reply, or what the first disagreement was.
 pub type Outcome = Result<[usize; REPLIES], String>;
 
+/// The two tables of a call.
+pub struct Tables {
+    pub tokens: Vec<u32>,
+    pub tree: Vec<u32>,
+}
+
+impl Tables {
+    /// Tables for so many tokens, each of which takes a byte of the text or more. A tree has at most two records a token.
+    pub fn with_room(tokens: usize) -> Self {
+        Tables { tokens: vec![0; TOKEN_NUMBERS * tokens], tree: vec![0; 2 * TREE_NUMBERS * tokens] }
+    }
+}
+
 /// The numbers of the ordinary reader's reply.
 pub fn plain(reply: ordinary::Reply) -> Numbers {
     [reply.number, reply.place, reply.tokens, reply.records]

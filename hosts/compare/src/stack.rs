@@ -1,29 +1,17 @@
 //! How much stack a call takes: it runs on a thread whose stack was filled with a pattern before.
 
+use crate::Tables;
 use generate::nest::Nest;
 use generate::text::{spell, Layout};
 use generate::{Grammar, Random};
-use ordinary::{number, TOKEN_NUMBERS, TREE_NUMBERS};
+use ordinary::number;
 use std::ffi::c_void;
 use std::mem::size_of;
-
-/// Tables that are large enough for a text.
-pub struct Tables {
-    pub tokens: Vec<u32>,
-    pub tree: Vec<u32>,
-}
-
-impl Tables {
-    /// A token takes a byte, and a tree has at most two records a token.
-    pub fn of(text: &[u8]) -> Self {
-        Tables { tokens: vec![0; TOKEN_NUMBERS * text.len()], tree: vec![0; 2 * TREE_NUMBERS * text.len()] }
-    }
-}
 
 /// The text that is nested in this way to this depth, which both readers accept at this setting.
 pub fn accepted(nest: &Nest, depth: u32, grammar: &Grammar) -> Vec<u8> {
     let text = spell(&nest.kinds(depth as usize, grammar), grammar, Layout::Tidy, &mut Random::new(1));
-    let Tables { mut tokens, mut tree } = Tables::of(&text);
+    let Tables { mut tokens, mut tree } = Tables::with_room(text.len());
     let theirs = ordinary::read(&text, &mut tokens, &mut tree, depth).number;
     let ours = idl::raw::read(&text, &mut tokens, &mut tree, depth).number;
     assert_eq!([theirs, ours], [number::ACCEPTED; 2], "{} at depth {depth}", nest.name);

@@ -1,6 +1,7 @@
 //! The stack that README and header ask for: it is the worst call's with a margin, and every call runs on it.
 
-use compare::stack::{accepted, of_call, Tables};
+use compare::stack::{accepted, of_call};
+use compare::Tables;
 use generate::nest::NESTS;
 use generate::Grammar;
 use idl::{Reply, DEPTH_CEILING, STACK_KB};
@@ -15,7 +16,7 @@ fn deepest() -> impl Iterator<Item = (&'static str, Vec<u8>, Tables)> {
     let grammar = Grammar::published();
     NESTS.iter().map(move |nest| {
         let text = accepted(nest, DEPTH_CEILING, &grammar);
-        let tables = Tables::of(&text);
+        let tables = Tables::with_room(text.len());
         (nest.name, text, tables)
     })
 }

@@ -118,13 +118,13 @@ fn kinds(words: &str, grammar: &Grammar) -> Vec<u32> {
 /// The first token of a list that opens more levels than the depth setting has.
 pub fn first_too_deep(kinds: &[u32], setting: u32, grammar: &Grammar) -> Option<usize> {
     let [opening, closing] = [OPENING, CLOSING].map(|marks| marks.map(|mark| grammar.kinds.of(mark)));
-    let mut open = 0;
+    let mut open = 0u32;
     kinds.iter().position(|kind| {
         if opening.contains(kind) {
             open += 1;
         }
         if closing.contains(kind) {
-            open -= 1;
+            open = open.saturating_sub(1);
         }
         open > setting
     })

@@ -4,7 +4,7 @@
 //! first byte, length in bytes) and four to a tree record (rule, first token, one past the last token, records in its
 //! subtree with itself). An accepted text leaves its records at the front of the tables and what stands after them
 //! unchanged. A refusal sets every number of the lent tables to zero, but for [`Reply::BadCall`], which changes
-//! nothing. The reader takes no memory besides.
+//! nothing. The reader takes no memory besides, only stack: at most [`STACK_KB`] KB.
 //!
 //! Every function here ends and none panics, whatever table, count or text it is given.
 //!

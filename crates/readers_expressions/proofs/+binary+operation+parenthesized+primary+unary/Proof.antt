@@ -1,5 +1,5 @@
 -- The readers of expressions, which call each other, meet their contracts: each reads its rule as its plan is.
--- The remaining depth falls at "(", and at one depth the level rises to that of an operand. Assumes nothing.
+-- The remaining depth falls at "(", and at one depth the level rises with each operation. Assumes nothing.
 use Rattle.readers_core.proofs.Computing.{computing}
 use Prim.Native.String.{String}
 use Rattle.grammar.specs.Notation.{place}
@@ -29,20 +29,20 @@ use Prim.Native.Nat.{_*_, _+_, _-_, ℕ}
 use Rattle.readers_expressions.proofs.binary.Reads as binary
 use Rattle.readers_expressions.proofs.binary.Kinds as binary-kinds
 use Rattle.readers_expressions.proofs.+binary+operation+parenthesized+primary+unary.Lts-binary as binary-lts
+use Rattle.readers_expressions.proofs.operation.Reads as operation
+use Rattle.readers_expressions.proofs.operation.Kinds as operation-kinds
+use Rattle.readers_expressions.proofs.+binary+operation+parenthesized+primary+unary.Lts-operation as operation-lts
 use Rattle.readers_expressions.proofs.parenthesized.Reads as parenthesized
 use Rattle.readers_expressions.proofs.+binary+operation+parenthesized+primary+unary.Lts-parenthesized as parenthesized-lts
 use Rattle.readers_expressions.proofs.primary.Reads as primary
 use Rattle.readers_expressions.proofs.+binary+operation+parenthesized+primary+unary.Lts-primary as primary-lts
 use Rattle.readers_expressions.proofs.unary.Reads as unary
 use Rattle.readers_expressions.proofs.+binary+operation+parenthesized+primary+unary.Lts-unary as unary-lts
-use Rattle.readers_core.proofs.next_kind.Reads as next-kind
-use Rattle.readers_expressions.proofs.operation.Reads as operation
-use Rattle.readers_expressions.proofs.operation.Kinds as operation-kinds
-use Rattle.readers_expressions.proofs.+binary+operation+parenthesized+primary+unary.Lts-operation as operation-lts
-use Rattle.readers_expressions.proofs.sign.Reads as sign
 use Rattle.readers_expressions.proofs.+binary+operation+parenthesized+primary+unary.{statement}
 use Rattle.readers_expressions.proofs.+binary+operation+parenthesized+primary+unary.Tie.{close}
 use Rattle.readers_expressions.proofs.level_of.Reads as level-of
+use Rattle.readers_expressions.proofs.sign.Reads as sign
+use Rattle.readers_core.proofs.next_kind.Reads as next-kind
 use Rattle.readers_core.proofs.take.Reads as take
 use Rattle.readers_core.proofs.node.Reads as node
 use Rattle.readers_core.proofs.open.Reads as opening
@@ -55,6 +55,7 @@ use Rattle.readers_names.proofs.is_one_of.Reads as is-one-of
 abbrev rank : String → ℕ
 rank w = place w ("parenthesized" ∷ "primary" ∷ "unary" ∷ "binary" ∷ [])
 
+-- levels count twice: an operation stands between the reader that calls it and that of its right operand
 abbrev climb : (depth level above : ℕ) → ℕ
 climb depth level above = ranks * depth + (rank "binary" + (2 * (operand - level) + above))
 

@@ -4,7 +4,8 @@
 //!
 //! Usage: stack PROGRAM, where PROGRAM is c/stack.c, compiled.
 
-use compare::stack::{accepted, of_call, Tables};
+use compare::stack::{accepted, of_call};
+use compare::Tables;
 use generate::nest::{Nest, NESTS};
 use generate::Grammar;
 use idl::DEPTH_CEILING;
@@ -16,7 +17,6 @@ const DEPTHS: [u32; 2] = [64, DEPTH_CEILING];
 const TIMES: usize = 2;
 
 /// The bytes of stack of a call: of the ordinary reader, and of the proved one from Rust and from C.
-#[derive(Clone, Copy, Default)]
 struct Row {
     ordinary: usize,
     rust: usize,
@@ -33,7 +33,7 @@ fn from_c(program: &str, text: &[u8], depth: u32) -> usize {
 
 fn measured(nest: &Nest, depth: u32, grammar: &Grammar, program: &str) -> Row {
     let text = accepted(nest, depth, grammar);
-    let mut tables = Tables::of(&text);
+    let mut tables = Tables::with_room(text.len());
     let ordinary = of_call(&mut || {
         ordinary::read(&text, &mut tables.tokens, &mut tables.tree, depth);
     });

@@ -5,12 +5,12 @@
 //! batches of different ones, each read once, since a processor learns the branches of a small text that is read over
 //! and over. No table is cleared between calls: both readers leave the same numbers there.
 
-use compare::{plain, plain_proved, tokens_needed, Numbers};
+use compare::{plain, plain_proved, tokens_needed, Numbers, Tables};
 use generate::corpus::{CORPORA, SCANNER};
 use generate::sentence::Sentences;
 use generate::text::{spell, Layout};
 use generate::{Grammar, Random};
-use ordinary::{number, DEPTH_CEILING as DEPTH, TOKEN_NUMBERS, TREE_NUMBERS};
+use ordinary::{number, DEPTH_CEILING as DEPTH, TOKEN_NUMBERS};
 use std::time::{Duration, Instant};
 
 const SIZES: [(&str, usize); 3] = [("1 KB", 1 << 10), MIDDLE, ("1 MB", 1 << 20)];
@@ -48,16 +48,8 @@ impl Text {
 }
 
 /// Tables that are large enough for each text of a batch.
-struct Tables {
-    tokens: Vec<u32>,
-    tree: Vec<u32>,
-}
-
-impl Tables {
-    fn new(batch: &[Text]) -> Self {
-        let room = batch.iter().map(Text::token_room).max().expect("a batch has a text");
-        Tables { tokens: vec![0; TOKEN_NUMBERS * room], tree: vec![0; 2 * TREE_NUMBERS * room] }
-    }
+fn tables_for(batch: &[Text]) -> Tables {
+    Tables::with_room(batch.iter().map(Text::token_room).max().expect("a batch has a text"))
 }
 
 /// A reader's call on a text.
@@ -180,7 +172,7 @@ fn time(times: &mut Times, calls: [Call; 2], batch: &[Text], tables: &mut Tables
 
 /// Times each part on a batch; the tree part only where the texts have tokens.
 fn time_parts(row: &mut Row) {
-    let mut tables = Tables::new(&row.batch);
+    let mut tables = tables_for(&row.batch);
     for text in &row.batch {
         assert_eq!(WHOLE[0](text, &mut tables)[0], row.reply, "{}, {}", row.name, row.size);
     }
