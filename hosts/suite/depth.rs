@@ -12,6 +12,9 @@ const CEILING: u32 = 200;
 const DEPTHS: [u32; 4] = [150, 199, 200, 201];
 const SETTINGS: [u32; 4] = [64, 200, 201, u32::MAX];
 
+/// The rule of the whole.
+const SPECIFICATION: u32 = 1;
+
 /// A text, the kinds of its tokens, and its token table.
 struct Text {
     bytes: Vec<u8>,
@@ -39,7 +42,8 @@ impl Text {
         }
     }
 
-    /// Demands that reply of both parts, and what it says of their tables; gives the tree table.
+    /// Demands that reply of both parts, and what it says of their tables: the last record of a tree is the whole text.
+    /// Gives the tree table.
     fn read(&self, setting: u32, grammar: &Grammar) -> Vec<u32> {
         let wanted = self.wanted(setting, grammar);
         let room = 2 * TREE_NUMBERS * self.kinds.len();
@@ -47,11 +51,16 @@ impl Text {
         let mut tokens = vec![FILLER; self.tokens.len()];
         let part = read_tree(&self.tokens, self.kinds.len(), self.bytes.len(), &mut alone, setting);
         let whole = read(&self.bytes, &mut tokens, &mut tree, setting);
-        assert_eq!(part, whole);
-        assert_eq!(numbers_of(whole), (wanted.0, wanted.1, wanted.2, whole.records));
-        assert_eq!(alone, tree);
+        assert_eq!((part, &alone), (whole, &tree));
+        let records = if wanted.0 == ACCEPTED { whole.records } else { 0 };
+        assert_eq!(numbers_of(whole), (wanted.0, wanted.1, wanted.2, records));
         match wanted.0 {
-            ACCEPTED => assert_eq!(tokens, self.tokens),
+            ACCEPTED => {
+                assert_eq!(tokens, self.tokens);
+                let (filled, rest) = tree.split_at(TREE_NUMBERS * records as usize);
+                assert!(filled.ends_with(&[SPECIFICATION, 0, wanted.2, records]));
+                assert!(rest.iter().all(|&number| number == FILLER));
+            }
             TOO_DEEP => assert!([&tokens[..], &tree].concat().iter().all(|&number| number == 0)),
             _ => assert!([&tokens[..], &tree].concat().iter().all(|&number| number == FILLER)),
         }

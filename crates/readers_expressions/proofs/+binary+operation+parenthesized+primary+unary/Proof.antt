@@ -278,22 +278,26 @@ module _ (t : ℕ) where
   unary-returns : unary-lts.Need-returns unary-claims (at reader (ranked (rank "unary")) unary.Pre t) unary.Post
   unfolding computing
   unary-returns c =
-      let signed = c .before .before .before .before .before .before .before .before .before .before .before .before .before .is-one-of in
-      let next = c .before .before .before .before .before .before .before .before .before .before .before .before .before .before .next-kind in
+      let test = c .before .before .before .before in
+      let operand = test .before .before .before in
+      let sign = operand .before .before .before .before in
+      let signed = sign .before .before in
+      let next = signed .before .next-kind in
       frame-on (rule "unary_expr") (among signs) (next .ensures)
-      (is-in signs (next .result) (signed .ensures) (c .before .before .before .before .if1 .taken))
-      ((c .before .before .before .before .before .before .before .before .before .before .before .sign .ensures .reads (c .before .before .before .before .if1 .taken) .at-any _ .in-any _ _ ▸
-      c .before .before .before .before .before .before .before .primary .ensures .in-any _ _) ▸
+      (is-in signs (next .result) (signed .is-one-of .ensures) (test .if1 .taken))
+      ((sign .sign .ensures .reads (test .if1 .taken) .at-any _ .in-any _ _ ▸ operand .primary .ensures .in-any _ _) ▸
       c .before .before .node .ensures .wraps refl _ _ _ tt)
 
   unary-returns-2 : unary-lts.Need-returns-2 unary-claims (at reader (ranked (rank "unary")) unary.Pre t) unary.Post
   unfolding computing
   unary-returns-2 c =
-      let signed = c .before .before .before .before .before .before .before .before .before .is-one-of in
-      let next = c .before .before .before .before .before .before .before .before .before .before .next-kind in
+      let operand = c .before .before .before in
+      let sign = operand .before .before .before .before in
+      let signed = sign .before .before in
+      let next = signed .before .next-kind in
       passed-on (rule "unary_expr") (except (signs ∷ [])) (next .ensures)
-      (is-out signs (next .result) (signed .ensures) (c .if1 .left)) refl tt
-      (unmoved (c .before .before .before .before .before .before .before .sign .ensures .stays (c .if1 .left)) (c .before .before .before .primary .ensures))
+      (is-out signs (next .result) (signed .is-one-of .ensures) (c .if1 .left)) refl tt
+      (unmoved (sign .sign .ensures .stays (c .if1 .left)) (operand .primary .ensures))
 
 pub +binary+operation+parenthesized+primary+unary-spec : {M : Type 1} → statement M
 +binary+operation+parenthesized+primary+unary-spec =
