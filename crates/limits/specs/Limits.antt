@@ -10,7 +10,7 @@ use Rattle.limits.specs.declared.Bounded.the-variants.{Good, Beyond}
 abbrev pub text-ceiling : ℕ
 text-ceiling = 1048576
 
--- "Depth setting: 1 to 64", which A10 raises to 200
+-- "Depth setting: 1 to 64."; request A10: "Raise the ceiling of the depth setting from 64 to 200."
 abbrev pub depth-ceiling : ℕ
 depth-ceiling = 200
 

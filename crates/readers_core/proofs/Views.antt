@@ -10,7 +10,7 @@ use Rattle.tables.specs.Tables.{token-width}
 use Rattle.readers_core.specs.Reading.{blaming, sunk, half, stop, step, deep-rest, blamed, too-deep, view, ceiling}
 
 -- more than any state: as many as two halves make
-abbrev pub whole : ℕ
+abbrev whole : ℕ
 whole = half * half
 
 pub goes-on : (s : ℕ) → s < stop → view s .answer ≡ 0

@@ -99,20 +99,18 @@ same-ahead ks {r} {start} {s} {s′} x = go (going (view (s .0) .answer))
 -- where an operator x of level k is next
 module _ {ks : List ℕ} {k x t : ℕ} (found : Found k x) (e : x ≡ ahead ks t) where
   -- one turn: the operator, its right operand, and the node of all since `start`, behind which no tighter operator is next
-  module _ {d start m o u : ℕ} {w w′ w″ : List ℕ} (takes : Takes ks (token x) t m)
-      (reads : Reads one ks d (call (k + 1)) (m, w) (o, w′)) (closes : Closes k start (o, w′) (u, w″)) where
-    pub operates-on : Within one ks d start (further-operand k) (t, w) (u, w″)
-    unfolding computing
-    operates-on = record {
-      of-any = λ hs. coming (among (x ∷ [])) e refl (operates x (level found) (found .has))
-          ((takes .reads d w .in-any start hs ▸ reads .in-any start _) ▸
-          closes .wraps refl ks d _ (level found .together));
-    }
-
-    pub stays-looser : level-of (ahead ks o) < k + 1 → level-of (ahead ks u) ≤ k
-    stays-looser h =
-        let same = ap level-of (same-ahead ks (closes .wraps refl ks 0 several (level found .together))) in
-        omega (arith, same, h)
+  pub operated : {d start m o u : ℕ} {w w′ w″ : List ℕ} → Takes ks (token x) t m →
+      Reads one ks d (call (k + 1)) (m, w) (o, w′) → Closes k start (o, w′) (u, w″) → level-of (ahead ks o) < k + 1 →
+      Within one ks d start (further-operand k) (t, w) (u, w″) × (level-of (ahead ks u) ≤ k)
+  unfolding computing
+  operated {d} {start} {w = w} takes reads closes looser =
+      let same = ap level-of (same-ahead ks (closes .wraps refl ks 0 several (level found .together))) in (
+        record {
+          of-any = λ hs. coming (among (x ∷ [])) e refl (operates x (level found) (found .has))
+              ((takes .reads d w .in-any start hs ▸ reads .in-any start _) ▸ closes .wraps refl ks d _ (level found .together));
+        },
+        omega (arith, same, looser),
+      )
 
   -- what it does: less is left to read, and all is ready for what is next then
   module _ {d start u : ℕ} {w w′ : List ℕ} (turn : Within one ks d start (further-operand k) (t, w) (u, w′)) where

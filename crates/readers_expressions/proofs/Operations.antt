@@ -111,7 +111,7 @@ level-found : (x : ℕ) → (level-of x ≡ 0) ⊎ Found (level-of x) x
 unfolding level-of
 level-found x = first-found x loosest (operand - loosest) (omega arith) (omega arith)
 
--- the level that it is found at
+-- what that level is
 pub level : {n x : ℕ} → Found n x → Level n
 level {n} f = at-level n (f .low) (f .high)
 
@@ -123,6 +123,7 @@ pub operator-kind : (k x : ℕ) → k ≡ level-of x → loosest ≤ k → IsKin
 operator-kind k x e low =
     let f = leveled k x e low in omega (arith, between x (level f) (f .has))
 
+-- every level stands below that of operands
 pub bounded : (x : ℕ) → level-of x < operand
 bounded x = ⊎-elim (λ e. omega (arith, e)) (λ f. omega (arith, f .high)) (level-found x)
 

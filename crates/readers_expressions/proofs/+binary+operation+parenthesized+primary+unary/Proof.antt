@@ -15,7 +15,7 @@ use Rattle.readers_core.proofs.Repetition.{remaining}
 use Rattle.readers_core.proofs.Sequence.{_▸_}
 use Rattle.readers_core.specs.Course.{one}
 use Rattle.readers_core.specs.Reading.{Reads, State}
-use Rattle.readers_expressions.proofs.Climbing.{Ready, climbed, less, operates-on, settled, stays-looser}
+use Rattle.readers_expressions.proofs.Climbing.{Ready, climbed, less, operated, settled}
 use Rattle.readers_expressions.proofs.Operations.{below-operand, bounded, leveled, operator-kind}
 use Rattle.readers_core.proofs.Starts.{is-in, is-out}
 use Rattle.readers_expressions.specs.Levels.{level-of as level-of′, operand, signs}
@@ -180,11 +180,8 @@ module _ (t : ℕ) where
       let operator = c .before .before .before .before .before .before .before .before in
       let next = operator .before .next-kind .ensures in
       let start = c .before .before .before .before .before .before .before .before .before .before .before .before in
-      let found = leveled _ _ (start .pre .1 .1 ∙ ap level-of′ (sym next)) (start .pre .1 .2) in
-      let node = c .before .before .node .ensures in (
-        operates-on found next (operator .take .ensures) (right .ensures .0) node,
-        stays-looser found next (operator .take .ensures) (right .ensures .0) node (right .ensures .1),
-      )
+      operated (leveled _ _ (start .pre .1 .1 ∙ ap level-of′ (sym next)) (start .pre .1 .2)) next (operator .take .ensures)
+      (right .ensures .0) (c .before .before .node .ensures) (right .ensures .1)
 
   -- between the marks, an expression at one level of depth less
   abbrev parenthesized-claims : parenthesized-lts.Claims

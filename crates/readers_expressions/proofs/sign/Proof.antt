@@ -2,9 +2,8 @@
 -- The two cases are the branches. Assumes nothing.
 use Rattle.readers_core.proofs.Computing.{computing}
 use borrow.Author.Needs.{needs}
-use lib.Dec.{T}
-use mathlib.Core.Bool.{Bool}
-use mathlib.Core.Path.{refl, sym, subst, _∙_}
+use mathlib.Core.Bool.{false≢true}
+use mathlib.Core.Path.{refl, sym, _∙_}
 use Rattle.readers_expressions.proofs.sign.Statement.{statement}
 use Rattle.readers_expressions.proofs.sign.Tie as tie
 
@@ -12,12 +11,12 @@ returns : tie.Need-returns
 unfolding computing
 returns c = record {
   reads = λ e. c .before .before .one-of-three .ensures .reads refl refl;
-  stays = λ e. absurd (subst (λ (b : Bool). T b) (sym (c .before .before .before .before .if1 .taken) ∙ e) tt);
+  stays = λ e. absurd (false≢true (sym e ∙ c .before .before .before .before .if1 .taken));
 }
 
 returns-2 : tie.Need-returns-2
 returns-2 c = record {
-  reads = λ e. absurd (subst (λ (b : Bool). T b) (sym e ∙ c .if1 .left) tt);
+  reads = λ e. absurd (false≢true (sym (c .if1 .left) ∙ e));
   stays = λ e. refl;
 }
 
