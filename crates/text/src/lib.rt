@@ -37,7 +37,7 @@ pub enum Piece {
 }
 
 // The classes of which a lexeme has bytes in a row.
-#[derive(Drop)]
+#[derive(Clone, Copy)]
 pub enum Class {
     Space,
     Digit,

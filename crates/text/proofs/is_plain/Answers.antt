@@ -2,12 +2,8 @@
 -- The code tests the bounds that the definition tests. Assumes nothing.
 use mathlib.Core.Path.{refl}
 use Rattle.text.specs.Literals.{plain}
-use Rattle.text.proofs.is_plain.Statement.{statement}
-use Rattle.text.proofs.is_plain.Tie as tie
+use Rattle.text.proofs.is_plain.Goals as goal
 
-returns : tie.Need-returns
+pub returns : goal.returns
 unfolding plain
 returns c = refl
-
-pub is_plain_spec : {M : Type 1} → statement M
-is_plain_spec = tie.close (tie.spec returns)

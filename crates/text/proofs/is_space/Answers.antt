@@ -2,12 +2,8 @@
 -- The code tests the bounds that the definition tests. Assumes nothing.
 use mathlib.Core.Path.{refl}
 use Rattle.text.specs.Bytes.{space}
-use Rattle.text.proofs.is_space.Statement.{statement}
-use Rattle.text.proofs.is_space.Tie as tie
+use Rattle.text.proofs.is_space.Goals as goal
 
-returns : tie.Need-returns
+pub returns : goal.returns
 unfolding space
 returns c = refl
-
-pub is_space_spec : {M : Type 1} → statement M
-is_space_spec = tie.close (tie.spec returns)

@@ -2,12 +2,8 @@
 -- The code tests what the definition tests. Assumes nothing.
 use mathlib.Core.Path.{refl}
 use Rattle.text.specs.Bytes.{in_line, line_end}
-use Rattle.text.proofs.is_in_line.Statement.{statement}
-use Rattle.text.proofs.is_in_line.Tie as tie
+use Rattle.text.proofs.is_in_line.Goals as goal
 
-returns : tie.Need-returns
+pub returns : goal.returns
 unfolding in_line line_end
 returns c = refl
-
-pub is_in_line_spec : {M : Type 1} → statement M
-is_in_line_spec = tie.close (tie.spec returns)

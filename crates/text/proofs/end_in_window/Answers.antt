@@ -1,0 +1,53 @@
+-- `text::end_in_window` meets its contract. The loop's invariant: the end is what is known of it from the bytes looked at.
+-- One byte more is one step of the law. Assumes nothing.
+use Prim.Native.Nat.{ℕ, ◌-◌, min}
+use mathlib.Core.Bool.{Bool, cond}
+use mathlib.Core.Path.{◌≡◌, ap, sym, ◌∙◌}
+use native.Mathlib.Omega.{arith}
+use borrow.Author.Rules.{rules}
+use Rattle.std.proofs.Common.{get_or}
+use Rattle.text.specs.Bytes.{run}
+use Rattle.text.specs.Classes.{member}
+use Rattle.text.proofs.Blocks.{end_so_far, end_unknown, end_further, end_known}
+use Rattle.text.proofs.end_in_window.Tie as tie
+use Rattle.text.proofs.end_in_window.Lts as lts
+use Rattle.text.proofs.end_in_window.Reads as reads
+use Rattle.text.proofs.end_in_window.Goals as goal
+use Rattle.text.proofs.end_in_window.Goals.{then-inside, else-inside}
+
+pub loop-at-preserved : goal.loop-at-preserved
+loop-at-preserved c =
+    let tested = c.before.before.before in
+    let turn = tested.before.before in
+    let args = turn.args in
+    let k = turn.loop-at.at in
+    let inside = tested.is_in-inside.ensures in
+    let chosen = λ (x : Bool). cond x args.size k in
+    let placed : c.if-inside.place ≡ chosen (member args.class (get_or args.text.now k 0)) =
+    elim c.if-inside.branch [
+      | then-inside w ↦ w.place-is ∙ ap chosen (sym w.if-inside.true ∙ inside)
+      | else-inside w ↦ w.place-is ∙ ap chosen (sym w.if-inside.false ∙ inside)
+    ] in (
+      omega arith,
+      c.lesser-end.ensures
+          ∙ end_further (member args.class) args.text.now args.size k _ _ turn.loop-at-test.true (omega arith) placed turn.loop-at.invariant.1,
+    )
+
+-- all bytes of the window are looked at
+found : (c : lts.After-loop tie.the-claims reads.Pre reads.Post goal.the-invariant-loop-at goal.the-decreases-loop-at) →
+    let args = c.args in
+    c.loop-at.end ≡ min args.size (run (member args.class) args.text.now)
+found c =
+    let args = c.args in
+    let loop = c.loop-at in
+    let r = run (member args.class) args.text.now in
+    loop.invariant.1 ∙ ap (λ (k : ℕ). end_so_far args.size k r) (omega (arith, loop.invariant.0)) ∙ end_known args.size r
+
+pub loop-at-init : goal.loop-at-init
+loop-at-init c = (omega arith, end_unknown _ _ c.args.size)
+
+pub overflow_cast-result : goal.overflow_cast-result
+overflow_cast-result c = let e = found c.before in search rules
+
+pub returns : goal.returns
+returns c = found c.before

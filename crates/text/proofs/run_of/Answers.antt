@@ -1,0 +1,22 @@
+-- `text::run_of` meets its contract. The loop's invariant: the bytes passed are of the class, so the rest's run is left to count.
+-- A byte of the class moves the invariant on; any other, or the end of the text, ends the run. Assumes nothing.
+use Prim.Native.Nat.{◌-◌}
+use mathlib.Core.Path.{sym, ◌∙◌}
+use Rattle.text.proofs.Runs.{passed_none, passed_more, passed_stop, passed_all}
+use Rattle.text.proofs.run_of.Goals as goal
+
+pub loop-size-init : goal.loop-size-init
+loop-size-init c = passed_none _ _
+
+pub returns-then-not-is_in : goal.returns-then-not-is_in
+returns-then-not-is_in c =
+    passed_stop _ _ c.loop-size-test.true (sym c.is_in.ensures ∙ c.if-not-is_in.true)
+    c.loop-size.invariant
+
+pub loop-size-preserved : goal.loop-size-preserved
+loop-size-preserved c =
+    passed_more _ _ c.loop-size-test.true (sym c.is_in.ensures ∙ c.if-not-is_in.false)
+    c.loop-size.invariant
+
+pub returns : goal.returns
+returns c = passed_all _ _ c.loop-size-test.false c.loop-size.invariant
