@@ -139,7 +139,7 @@ module _ {R : Course} {ks : List ℕ} {d : ℕ} where
       first : {C : Course} (m : Shares R C) → Inside m.rule p → (view s.0).answer ≡ 0 → {f : Forest} {o : Outcome} →
           Runs (table_in C) (kind_at ks) d (seq (token x) (renamed m.number q)) (view s.0).at f o →
           Runs (table_in C) (kind_at ks) d (seq (renamed m.number p) (renamed m.number q)) (view s.0).at f o
-      first m u z r = first_of_two (λ g x. one m u z {f = g} {o = x}) r
+      first m u z r = first_of_two (λ g x. one m u {f = g} {o = x} z) r
 
   module _ (n : ℕ) {s u : ℕ} {w w' : List ℕ} where
     -- a frame of its own, from `s` to `u`
