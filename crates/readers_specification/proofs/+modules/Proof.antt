@@ -23,13 +23,13 @@ use borrow.Author.Rules.{rules}
 use mathlib.Core.Path.{◌∙◌, refl}
 use native.Mathlib.Omega.{arith}
 use Rattle.readers_specification.proofs.defined.Reads as defined
-use Rattle.readers_specification.proofs.+defined_definition_definitions_module_definition.Lts-defined as defined-lts
+use Rattle.readers_specification.proofs.+modules.Lts-defined as defined-lts
 use Rattle.readers_specification.proofs.definition.Reads as definition
-use Rattle.readers_specification.proofs.+defined_definition_definitions_module_definition.Lts-definition as definition-lts
+use Rattle.readers_specification.proofs.+modules.Lts-definition as definition-lts
 use Rattle.readers_specification.proofs.definitions.Reads as definitions
-use Rattle.readers_specification.proofs.+defined_definition_definitions_module_definition.Lts-definitions as definitions-lts
+use Rattle.readers_specification.proofs.+modules.Lts-definitions as definitions-lts
 use Rattle.readers_specification.proofs.module_definition.Reads as module_definition
-use Rattle.readers_specification.proofs.+defined_definition_definitions_module_definition.Lts-module_definition as module-definition-lts
+use Rattle.readers_specification.proofs.+modules.Lts-module_definition as module-definition-lts
 use Rattle.readers_core.proofs.node.Reads as node_reads
 use Rattle.readers_core.proofs.next_kind.Reads as next_kind_reads
 use Rattle.readers_core.proofs.open.Reads as open_reads
@@ -37,8 +37,8 @@ use Rattle.readers_core.proofs.take.Reads as take_reads
 use Rattle.readers_core.proofs.has_stopped.Reads as has_stopped_reads
 use Rattle.readers_specification.proofs.other_definition.Reads as other_definition_reads
 use Rattle.readers_specification.proofs.starts_definition.Reads as starts_definition_reads
-use Rattle.readers_specification.proofs.+defined_definition_definitions_module_definition.{statement}
-use Rattle.readers_specification.proofs.+defined_definition_definitions_module_definition.Tie.{close}
+use Rattle.readers_specification.proofs.+modules.{statement}
+use Rattle.readers_specification.proofs.+modules.Tie.{close}
 
 -- the readers of the cycle: at one depth each calls those before it
 abbrev order : List String

@@ -30,12 +30,12 @@ use Rattle.readers_types.proofs.sequence_type.Reads as Sequence
 use Rattle.readers_types.proofs.simple_type_spec.Reads as Simple
 use Rattle.readers_types.proofs.string_type.Reads as Strings
 use Rattle.readers_types.proofs.template_type_spec.Reads as Template
-use Rattle.readers_types.proofs.+sequence_body_sequence_type_simple_type_spec_template_type_spec.Lts-sequence_body as Body-walk
-use Rattle.readers_types.proofs.+sequence_body_sequence_type_simple_type_spec_template_type_spec.Lts-sequence_type as Sequence-walk
-use Rattle.readers_types.proofs.+sequence_body_sequence_type_simple_type_spec_template_type_spec.Lts-simple_type_spec as Simple-walk
-use Rattle.readers_types.proofs.+sequence_body_sequence_type_simple_type_spec_template_type_spec.Lts-template_type_spec as Template-walk
-use Rattle.readers_types.proofs.+sequence_body_sequence_type_simple_type_spec_template_type_spec.{statement}
-use Rattle.readers_types.proofs.+sequence_body_sequence_type_simple_type_spec_template_type_spec.Tie.{close}
+use Rattle.readers_types.proofs.+sequences.Lts-sequence_body as Body-walk
+use Rattle.readers_types.proofs.+sequences.Lts-sequence_type as Sequence-walk
+use Rattle.readers_types.proofs.+sequences.Lts-simple_type_spec as Simple-walk
+use Rattle.readers_types.proofs.+sequences.Lts-template_type_spec as Template-walk
+use Rattle.readers_types.proofs.+sequences.{statement}
+use Rattle.readers_types.proofs.+sequences.Tie.{close}
 
 -- the readers of the cycle: at one depth each calls those before it
 abbrev rank : String → ℕ
