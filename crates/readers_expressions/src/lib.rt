@@ -1,6 +1,8 @@
 // Readers of constant expressions. The six levels of binary operators, (30) to (35), are one reader over the level. An
 // expression stands within another in two places, `parenthesized` and `operation`. The compiler takes both into `binary`, where
 // they share their room on the stack.
+#![tactic(auto)]
+
 ghost use Rattle.std.specs.Prelude.{◌≡◌, ◌≤◌, ◌<◌};
 ghost use Rattle.prediction.specs.plans.Plan.{call};
 ghost use Rattle.grammar.specs.Names.{rule};

@@ -1,5 +1,7 @@
 // Readers of whole texts: rules 1 to 3. A module holds definitions, and a definition may be a module: the depth left falls
 // at the "{" of a module.
+#![tactic(auto)]
+
 ghost use Rattle.std.specs.Prelude.{◌≡◌};
 ghost use Rattle.grammar.specs.Sets.{elem};
 ghost use Rattle.kinds.specs.Kinds.{kind_of};

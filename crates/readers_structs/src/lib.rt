@@ -1,5 +1,7 @@
 // Readers of structs and unions, and of the declarations that hold types. Type, struct, member and union readers call each
 // other in a cycle; remaining depth falls at each opening mark.
+#![tactic(auto)]
+
 ghost use Rattle.std.specs.Prelude.{◌≡◌};
 ghost use Rattle.readers_core.specs.Notation.{<◌>, ◌*};
 ghost use Rattle.grammar.specs.Sets.{elem};

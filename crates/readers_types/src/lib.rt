@@ -1,5 +1,7 @@
 // Readers of types and declarators, but for structs and unions. A sequence holds a type, which may be a sequence: four readers
 // call each other in a cycle, and remaining depth falls at the "<" of a sequence.
+#![tactic(auto)]
+
 ghost use Rattle.std.specs.Prelude.{◌≡◌};
 ghost use Rattle.prediction.specs.plans.Plan.{call, group};
 ghost use Rattle.readers_core.specs.Notation.{<◌>, ◌*, further};

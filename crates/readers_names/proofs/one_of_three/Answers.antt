@@ -7,7 +7,6 @@ use mathlib.Core.Bool.{Bool, true, false, not, ◌&&◌, ◌||◌}
 use mathlib.Core.List.{List, [], ◌∷◌}
 use mathlib.Core.Logic.{inr, ⊎_elim}
 use lib.Dec.{T, eqb}
-use borrow.Author.Rules.{rules}
 use borrow.Author.Tests.{eq-eqb}
 use Rattle.grammar.specs.Sets.{elem}
 use Rattle.prediction.specs.plans.Plan.{Plan, token, seq, alt}
@@ -17,8 +16,7 @@ use Rattle.readers_core.proofs.Computing.{computing}
 use Rattle.readers_core.proofs.Choosing.{among, except, any_elem, elem_any}
 use Rattle.readers_core.proofs.Frames.{chosen, frame_by, taken_of}
 use Rattle.readers_core.proofs.Sequence.{◌▸◌}
-use Rattle.readers_names.proofs.one_of_three.Statement.{statement}
-use Rattle.readers_names.proofs.one_of_three.Tie as tie
+use Rattle.readers_names.proofs.one_of_three.Goals as goal
 
 at_its_place : (a b c : Bool) → T (a || (b || (c || false))) →
     T ((a || ((b || (c && (not (b || false) && true))) && (not (a || false) && true))) && true)
@@ -55,38 +53,33 @@ module _ (k l m : ℕ) {x : ℕ} {answer : Bool} (told : answer ≡ elem x (k �
         (tt, λ u. subst (λ (b : Bool). T b) (sym told ∙ h) (any_elem (k ∷ l ∷ m ∷ []) x (inr u)))
         (rw (eq-eqb l l refl, eq-eqb m m refl, or_true (eqb m l)) y)
 
-take_requires : tie.Need-take-requires
-take_requires c κs =
-    let pre = c.before.before.before.before.before.requires in
-    (pre.0, is_kind _ _ _ c.before.is_one_of.ensures c.if1.true pre.1 pre.2 pre.3)
+pub take-word-requires : goal.take-word-requires
+take-word-requires c =
+    let pre = c.requires in
+    (pre.0, is_kind _ _ _ c.is_one_of.ensures c.if-is_one_of.true pre.1 pre.2 pre.3)
 
-returns : tie.Need-returns
+pub returns-then-is_one_of : goal.returns-then-is_one_of
+unfolding computing
+returns-then-is_one_of c =
+    let test = c.before.before.before.before.before.before in
+    record {
+      reads = λ e q. record {
+        at_any = λ d. frame_by _ q
+            (taken _ _ _ test.is_one_of.ensures test.next_kind-next.ensures test.if-is_one_of.true
+            ((c.take-word.ensures.reads _ _).in_any _ _ ▸
+            c.node.ensures.wraps e _ _ _ tt));
+      };
+    }
+
+pub returns : goal.returns
 unfolding computing
 returns c =
-    let test = c.before.before.before.before.before in
+    let test = c.before.before.before.before.before.before in
     record {
       reads = λ e q. record {
         at_any = λ d. frame_by _ q
-            (taken _ _ _ test.before.is_one_of.ensures test.before.before.next_kind.ensures test.if1.true
-            ((c.before.before.before.before.take.ensures.reads _ _).in_any _ _ ▸
-            c.before.before.node.ensures.wraps e _ _ _ tt));
+            (missed _ _ _ test.is_one_of.ensures test.next_kind-next.ensures test.if-is_one_of.false
+            ((c.take-word-2.ensures.reads _ _).in_any _ _ ▸
+            c.node-2.ensures.wraps e _ _ _ tt));
       };
     }
-
-returns-2 : tie.Need-returns-2
-unfolding computing
-returns-2 c =
-    let test = c.before.before.before.before.before in
-    record {
-      reads = λ e q. record {
-        at_any = λ d. frame_by _ q
-            (missed _ _ _ test.before.is_one_of.ensures test.before.before.next_kind.ensures test.if1.false
-            ((c.before.before.before.before.take2.ensures.reads _ _).in_any _ _ ▸
-            c.before.before.node2.ensures.wraps e _ _ _ tt));
-      };
-    }
-
-pub one_of_three_spec : {M : Type 1} → statement M
-one_of_three_spec =
-    tie.close (tie.spec (λ c κs. search rules) (λ c κs. search rules) take_requires (λ c κs. search rules)
-    (λ c. search rules) returns (λ c κs. search rules) (λ c κs. search rules) (λ c. search rules) returns-2)
