@@ -9,8 +9,7 @@ use Rattle.kinds.specs.Kinds.{mark}
 use Rattle.text.specs.Bytes.{from, end}
 use Rattle.text.proofs.Ranges.{agree, agreed, every, every_at}
 use Rattle.marks.specs.Starts.{starts_mark}
-use Rattle.marks.proofs.starts_mark.Statement.{statement}
-use Rattle.marks.proofs.starts_mark.Tie as tie
+use Rattle.marks.proofs.starts_mark.Goals as goal
 
 module _ (lo₁ hi₁ lo₂ hi₂ k₁ lo₃ hi₃ k₂ lo₄ hi₄ lo₅ hi₅ : ℕ) where
   -- five ranges and two bytes
@@ -20,9 +19,6 @@ module _ (lo₁ hi₁ lo₂ hi₂ k₁ lo₃ hi₃ k₂ lo₄ hi₄ lo₅ hi₅ 
   tested : T (every (λ b. agree (ranges b) (starts_mark b)) 0 end) → (b : ℕ) → b < end → ranges b ≡ starts_mark b
   tested t b h = agreed (ranges b) (starts_mark b) (every_at (λ b. agree (ranges b) (starts_mark b)) 0 end t (omega arith) h)
 
-returns : tie.Need-returns
+pub returns : goal.returns
 unfolding mark
 returns c = tested _ _ _ _ _ _ _ _ _ _ _ _ tt c.args.byte (omega arith)
-
-pub starts_mark_spec : {M : Type 1} → statement M
-starts_mark_spec = tie.close (tie.spec returns)
