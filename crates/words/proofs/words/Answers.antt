@@ -2,12 +2,8 @@
 -- Assumes nothing.
 use mathlib.Core.Path.{refl}
 use Rattle.words.specs.Table.{table}
-use Rattle.words.proofs.words.Statement.{statement}
-use Rattle.words.proofs.words.Tie as tie
+use Rattle.words.proofs.words.Goals as goal
 
-returns : tie.Need-returns
+pub returns : goal.returns
 unfolding table
 returns c = refl
-
-pub words_spec : {M : Type 1} → statement M
-words_spec = tie.close (tie.spec returns)
