@@ -3,37 +3,33 @@
 use mathlib.Core.Path.{◌≡◌, refl, ap, sym, ◌∙◌}
 use Prim.Native.Nat.{ℕ, zero, suc, ◌+◌}
 use native.Mathlib.Omega.{arith}
-use borrow.Author.Rules.{rules}
 use lib.ListN.{drop, length-drop}
 use Rattle.text.specs.Blanks.{to_close, closed, block_comment}
 use Rattle.text.specs.declared.Lexeme.TheVariants.{Blank}
 use Rattle.text.proofs.Rests.{rest}
 use Rattle.blanks.proofs.Reach.{close_within}
-use Rattle.blanks.proofs.block_comment.Statement.{statement}
 use Rattle.blanks.proofs.block_comment.Tie as tie
+use Rattle.blanks.proofs.block_comment.Lts as lts
+use Rattle.blanks.proofs.block_comment.Reads as reads
+use Rattle.blanks.proofs.block_comment.Goals as goal
 
-found : (c : tie.After-to-close) → c.to_close.result ≡ to_close (drop 2 c.before.before.before.args.bs.now)
-found c = c.to_close.ensures ∙ ap to_close (rest c.before.before.before.args.bs.now 2)
+found : (c : lts.After-to_close tie.the-claims reads.Pre reads.Post) → c.to_close-size.result ≡ to_close (drop 2 c.args.bs.now)
+found c = c.to_close-size.ensures ∙ ap to_close (rest c.args.bs.now 2)
 
-add_t9 : tie.Need-overflow-add-t9
-add_t9 c =
-    let bs = c.before.before.before.before.args.bs.now in
-    omega (arith, found c.before, close_within (drop 2 bs), length-drop 2 bs)
+pub overflow_add-result : goal.overflow_add-result
+overflow_add-result c =
+    let bs = c.args.bs.now in
+    omega (arith, found c.before.before, close_within (drop 2 bs), length-drop 2 bs)
 
-returns : tie.Need-returns
+pub returns-then-size-eq0 : goal.returns-then-size-eq0
 unfolding block_comment closed
-returns c = ap closed (sym c.if1.true ∙ found c.before)
+returns-then-size-eq0 c = ap closed (sym c.if-size-eq0.true ∙ found c.before.before)
 
 closed_some : (n : ℕ) → (n ≡ 0 → ⊥) → Blank (2 + n) ≡ closed n
 unfolding closed
 closed_some zero h = absurd (h refl)
 closed_some (suc n) h = refl
 
-returns-2 : tie.Need-returns-2
+pub returns-else-size-eq0 : goal.returns-else-size-eq0
 unfolding block_comment
-returns-2 c = closed_some _ c.if1.false ∙ ap closed (found c.before)
-
-pub block_comment_spec : {M : Type 1} → statement M
-block_comment_spec =
-    tie.close
-    (tie.spec (search rules) (search rules) (search rules) (search rules) add_t9 returns returns-2)
+returns-else-size-eq0 c = closed_some _ c.if-size-eq0.false ∙ ap closed (found c.before.before)
