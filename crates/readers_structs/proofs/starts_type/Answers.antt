@@ -10,8 +10,7 @@ use Rattle.readers_core.proofs.Starts.{below, only_last, starts, starts_not}
 use Rattle.readers_structs.specs.Plans.{low_type_starts, type_starts}
 use mathlib.Core.List.{List, [], ◌∷◌}
 use native.Mathlib.Omega.{arith}
-use Rattle.readers_structs.proofs.starts_type.Statement.{statement}
-use Rattle.readers_structs.proofs.starts_type.Tie as tie
+use Rattle.readers_structs.proofs.starts_type.Goals as goal
 
 -- the kinds of the two arms of the match
 abbrev one_arm : List ℕ
@@ -23,23 +22,20 @@ one_arm =
 abbrev other_arm : List ℕ
 other_arm = kinds_of ("enum" ∷ "float" ∷ "short" ∷ "struct" ∷ "unsigned" ∷ "wstring" ∷ [])
 
-returns : tie.Need-returns
+pub returns-then-kind-gt-LAST_KEYWORD : goal.returns-then-kind-gt-LAST_KEYWORD
 unfolding below
-returns c = only_last (kind_of "wstring") low_type_starts (kind_of "::") c.before.args.kind tt c.if1.true
+returns-then-kind-gt-LAST_KEYWORD c = only_last (kind_of "wstring") low_type_starts (kind_of "::") c.args.kind tt c.if-kind-gt-LAST_KEYWORD.true
 
-returns-2 : tie.Need-returns-2
+pub returns-in-1 : goal.returns-in-1
 unfolding AnyOf NoneOf flat subset elem
-returns-2 c = starts one_arm type_starts _ tt c.match.keys1
+returns-in-1 c = starts one_arm type_starts _ tt c.in-1.is
 
-returns-3 : tie.Need-returns-3
+pub returns-in-31 : goal.returns-in-31
 unfolding AnyOf NoneOf flat subset elem
-returns-3 c = starts other_arm type_starts _ tt c.match.keys2
+returns-in-31 c = starts other_arm type_starts _ tt c.in-31.is
 
-returns-4 : tie.Need-returns-4
+pub returns-in_default : goal.returns-in_default
 unfolding AnyOf NoneOf flat subset elem
-returns-4 c =
+returns-in_default c =
     starts_not (only "::" ∷ other_arm ∷ one_arm ∷ []) type_starts _ tt
-    (c.match.rest, λ e. omega (arith, c.before.if1.false, e))
-
-pub starts_type_spec : {M : Type 1} → statement M
-starts_type_spec = tie.close (tie.spec returns returns-2 returns-3 returns-4)
+    (c.in_default.in_default-own.rest, λ e. omega (arith, c.if-kind-gt-LAST_KEYWORD.false, e))

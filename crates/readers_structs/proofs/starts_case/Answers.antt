@@ -6,16 +6,12 @@ use Rattle.readers_core.proofs.Choosing.{AnyOf, NoneOf, flat}
 use Rattle.readers_core.proofs.Starts.{starts, starts_not}
 use Rattle.readers_structs.specs.Plans.{case_starts}
 use mathlib.Core.List.{[], ◌∷◌}
-use Rattle.readers_structs.proofs.starts_case.Statement.{statement}
-use Rattle.readers_structs.proofs.starts_case.Tie as tie
+use Rattle.readers_structs.proofs.starts_case.Goals as goal
 
-returns : tie.Need-returns
+pub returns-in-24 : goal.returns-in-24
 unfolding AnyOf NoneOf flat subset elem
-returns c = starts case_starts case_starts _ tt c.match.keys1
+returns-in-24 c = starts case_starts case_starts _ tt c.in-24.is
 
-returns-2 : tie.Need-returns-2
+pub returns-in_default : goal.returns-in_default
 unfolding AnyOf NoneOf flat subset elem
-returns-2 c = starts_not (case_starts ∷ []) case_starts _ tt c.match.rest
-
-pub starts_case_spec : {M : Type 1} → statement M
-starts_case_spec = tie.close (tie.spec returns returns-2)
+returns-in_default c = starts_not (case_starts ∷ []) case_starts _ tt c.in_default.in_default-own.rest
