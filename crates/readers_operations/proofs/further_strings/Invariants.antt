@@ -11,7 +11,7 @@ use Rattle.readers_operations.proofs.further_strings.Given as goal
 abbrev pub invariant-loop-comma : goal.invariant-loop-comma
 invariant-loop-comma l =
     (R : Course) (d : ℕ) (w : List ℕ) (start : ℕ) →
-    Far R l.tokens d start (seq (token (kind_of ",")) (string_literal string)) (l.s, w) (l.t, w)
+    Far R l.tokens d start (seq (token (kind_of ",")) (string_literal string)) (l.at, w) (l.listed, w)
 
 abbrev pub decreases-loop-comma : goal.decreases-loop-comma
-decreases-loop-comma l = remaining l.tokens l.t
+decreases-loop-comma l = remaining l.tokens l.listed
