@@ -78,7 +78,7 @@ pub fn read_all<R: Read>(input: &mut R, bytes: &mut [u8]) -> Transfer
     Transfer::Bytes(size)
 }
 
-// Writes all of the bytes, or says why not. A write that takes nothing has failed.
+// Writes all of the bytes, or says why not, and then the first part of them is written. A write that takes nothing has failed.
 pub fn write_all<W: Write>(output: &mut W, bytes: &[u8]) -> io::Result<()>
     ensures whole { OnOk result (Appends (W.contents output.old) (W.contents output.new) bytes.now) }
     ensures part { OnErr result (WrotePart (W.contents output.old) (W.contents output.new) bytes.now) }
