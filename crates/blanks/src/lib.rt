@@ -1,4 +1,6 @@
 // Comments, at the front of the rest of a text.
+#![tactic(auto)]
+
 ghost use Rattle.std.specs.Prelude.{◌≡◌, ◌≤◌, length};
 ghost use Rattle.text.specs.Blanks.{line_comment, block_comment, to_close};
 

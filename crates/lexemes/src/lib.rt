@@ -1,5 +1,7 @@
 // The lexeme at the front of the rest of a text, sorted by its first byte and, where that does not decide, its second.
 // Calls that the compiler keeps get the text as `&*bs`: lent anew, it stays in registers everywhere else.
+#![tactic(auto)]
+
 ghost use Rattle.std.specs.Prelude.{true, ◌≡◌, ◌<◌, length};
 ghost use Rattle.lexemes.specs.Fronts as fronts;
 ghost use Rattle.text.specs.Bytes.{at, letter};

@@ -1,4 +1,6 @@
 // The ceilings of a call, named with the type that they bound.
+#![tactic(auto)]
+
 ghost use Rattle.std.specs.Prelude.{◌≡◌};
 ghost use Rattle.limits.specs.Limits.{good_text, bounded};
 

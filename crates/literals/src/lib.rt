@@ -1,4 +1,6 @@
 // Character and string literals: paper 01, "Character, string". A literal is read from the rest of the text that starts with it.
+#![tactic(auto)]
+
 ghost use Rattle.std.specs.Prelude.{cond, ◌≡◌, ◌≤◌, length};
 ghost use Rattle.text.specs.Bytes.{at};
 ghost use Rattle.text.specs.Classes.{member};

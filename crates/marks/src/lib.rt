@@ -1,4 +1,6 @@
 // The mark at the front of the rest of a text.
+#![tactic(auto)]
+
 ghost use Rattle.std.specs.Prelude.{true, ◌≡◌, [], ◌∷◌};
 ghost use Rattle.kinds.specs.Kinds as kinds;
 ghost use Rattle.marks.specs.Starts.{starts_mark};
@@ -23,6 +25,7 @@ pub fn starts_mark(byte: u8) -> bool
 
 // The kind of the mark that is this byte; 0 where there is none. The marks stand in four dense ranges of bytes, chosen first:
 // each match is then a small table, where one for all of them is a jump.
+#[tactic(auto, unfolding(kinds::specs::Kinds::mark))]
 fn one_byte(byte: u8) -> u32
     ensures { result ≡ kinds.mark (byte ∷ []) }
 {

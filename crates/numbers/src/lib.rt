@@ -1,4 +1,6 @@
 // The numbers of a text: integer, floating and fixed. Each function is given the rest of the text from the number's first byte.
+#![tactic(auto)]
+
 ghost use Rattle.std.specs.Prelude.{◌≡◌, eqb};
 ghost use Rattle.text.specs.Bytes.{at, run, digit};
 ghost use Rattle.text.specs.Numbers as numbers;

@@ -1,4 +1,6 @@
 // The whole reader: the token part, then the tree part.
+#![tactic(auto)]
+
 ghost use Rattle.grammar.specs.Idl.{idl};
 ghost use Rattle.meaning.specs.Calls.{Answered};
 

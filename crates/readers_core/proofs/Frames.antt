@@ -7,6 +7,7 @@ use Rattle.prediction.specs.Sets.{each}
 use Rattle.prediction.specs.plans.Plan.{same_plan, Plan, call, token, seq, wrap}
 use Rattle.prediction.proofs.plans.Plan.{same_plan_equal}
 use Rattle.grammar.specs.Forest.{Forest}
+use Rattle.prediction.specs.validator.Typing.{Table}
 use Rattle.prediction.specs.Interpreter.{Outcome, Runs, run_seq, run_seq_stop}
 use Rattle.prediction.specs.sharing.Renaming.{Inside, renamed}
 use Rattle.tables.specs.Tables.{token_width}
@@ -19,6 +20,13 @@ use Rattle.readers_core.proofs.Views.{goes_on, going_at, has_stopped, onward_ans
 use Rattle.readers_core.proofs.Views.{onward_goes, onward_there}
 use Rattle.readers_core.proofs.Choosing.{AnyOf, Known, Knows, among, any_elem, choose, run_chosen, inside_choose, choose_shared, one_of, run_one_of}
 use Rattle.readers_core.proofs.Choosing.{one_of_shared}
+
+-- another plan for the first of two, where it runs whenever that does
+first_of_two : {t : Table} {ks : ℕ → ℕ} {d i : ℕ} {a a' b : Plan} {f : Forest} {o : Outcome} →
+    ((g : Forest) (x : Outcome) → Runs t ks d a i g x → Runs t ks d a' i g x) → Runs t ks d (seq a b) i f o →
+    Runs t ks d (seq a' b) i f o
+first_of_two h (run_seq r r') = run_seq (h _ _ r) r'
+first_of_two h (run_seq_stop r c) = run_seq_stop (h _ _ r) c
 
 pub going : (n : ℕ) → (n ≡ 0) ⊎ (n ≡ 0 → ⊥)
 going zero = inl refl
@@ -131,8 +139,7 @@ module _ {R : Course} {ks : List ℕ} {d : ℕ} where
       first : {C : Course} (m : Shares R C) → Inside m.rule p → (view s.0).answer ≡ 0 → {f : Forest} {o : Outcome} →
           Runs (table_in C) (kind_at ks) d (seq (token x) (renamed m.number q)) (view s.0).at f o →
           Runs (table_in C) (kind_at ks) d (seq (renamed m.number p) (renamed m.number q)) (view s.0).at f o
-      first m u z (run_seq r r') = run_seq (one m u z r) r'
-      first m u z (run_seq_stop r c) = run_seq_stop (one m u z r) c
+      first m u z r = first_of_two (λ g x. one m u {f = g} {o = x} z) r
 
   module _ (n : ℕ) {s u : ℕ} {w w' : List ℕ} where
     -- a frame of its own, from `s` to `u`

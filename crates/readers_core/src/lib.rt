@@ -2,6 +2,8 @@
 // A state that has stopped passes through every reader, so that readers are straight lines. They pass the token table on as
 // `&*tokens`, and those that the compiler does not inline lend it anew at their start, too: so it travels in registers.
 // A reader's contract names the course whose plans it follows, `one` for edition 1, and holds in every course that shares the rules.
+#![tactic(auto)]
+
 ghost use Rattle.std.specs.Prelude.{◌≡◌, ◌-◌, ◌%◌, ◌==◌, nat_le};
 ghost use Rattle.prediction.specs.plans.Plan.{token};
 ghost use Rattle.readers_core.specs.Reading.{IsKind, kind_at, ahead, half, stop, sunk, Addressable, view, Takes, Opens, Closes};

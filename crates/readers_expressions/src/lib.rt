@@ -1,6 +1,8 @@
 // Readers of constant expressions. The six levels of binary operators, (30) to (35), are one reader over the level. An
 // expression stands within another in two places, `parenthesized` and `operation`. The compiler takes both into `binary`, where
 // they share their room on the stack.
+#![tactic(auto)]
+
 ghost use Rattle.std.specs.Prelude.{◌≡◌, ◌≤◌, ◌<◌};
 ghost use Rattle.prediction.specs.plans.Plan.{call};
 ghost use Rattle.grammar.specs.Names.{rule};
@@ -30,7 +32,7 @@ fn level_of(kind: u32) -> u32
 }
 
 // An expression in parentheses, as (38) primary_expr.
-#[cycle(binary_operation_parenthesized_primary_unary)]
+#[cycle(expressions)]
 fn parenthesized(tokens: &[u32], tree: &mut [u32], at: Reading, depth: u32) -> Reading
     requires { Addressable tokens.now }
     ensures { Reads one tokens.now depth ("(" ⟨ < "const_exp" > ⟩ ")") (at, tree.old) (result, tree.new) }
@@ -44,7 +46,7 @@ fn parenthesized(tokens: &[u32], tree: &mut [u32], at: Reading, depth: u32) -> R
 }
 
 // (38) primary_expr
-#[cycle(binary_operation_parenthesized_primary_unary)]
+#[cycle(expressions)]
 fn primary(tokens: &[u32], tree: &mut [u32], at: Reading, depth: u32) -> Reading
     requires { Addressable tokens.now }
     ensures { Reads one tokens.now depth (< "primary_expr" >) (at, tree.old) (result, tree.new) }
@@ -80,7 +82,7 @@ fn sign(tokens: &[u32], tree: &mut [u32], at: Reading, signed: bool) -> Reading
 }
 
 // (36) unary_expr
-#[cycle(binary_operation_parenthesized_primary_unary)]
+#[cycle(expressions)]
 fn unary(tokens: &[u32], tree: &mut [u32], at: Reading, depth: u32) -> Reading
     requires { Addressable tokens.now }
     ensures { Reads one tokens.now depth (< "unary_expr" >) (at, tree.old) (result, tree.new) }
@@ -96,7 +98,7 @@ fn unary(tokens: &[u32], tree: &mut [u32], at: Reading, depth: u32) -> Reading
 }
 
 // An operator of the level, and its right operand, which holds only tighter ones: all since `start` becomes one node.
-#[cycle(binary_operation_parenthesized_primary_unary)]
+#[cycle(expressions)]
 fn operation(
     tokens: &[u32],
     tree: &mut [u32],
@@ -116,7 +118,7 @@ fn operation(
 }
 
 // (30) to (36): operands, and the operators between them of this level and above.
-#[cycle(binary_operation_parenthesized_primary_unary)]
+#[cycle(expressions)]
 fn binary(tokens: &[u32], tree: &mut [u32], at: Reading, depth: u32, level: u32) -> Reading
     requires { Addressable tokens.now × (rule "or_expr" ≤ level) × (level ≤ rule "unary_expr") }
     ensures reads { Reads one tokens.now depth (call level) (at, tree.old) (result, tree.new) }

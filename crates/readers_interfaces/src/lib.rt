@@ -1,5 +1,7 @@
 // Readers of interfaces: rules 4 to 11. Rules 4 to 7 share their beginning with other definitions, so they are read
 // from "interface" on, in the frame of the definition, which begins at `start`.
+#![tactic(auto)]
+
 ghost use Rattle.std.specs.Prelude.{◌≡◌};
 ghost use Rattle.grammar.specs.Sets.{elem};
 ghost use Rattle.readers_core.specs.Notation.{<◌>, ◌*};

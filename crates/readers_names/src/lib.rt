@@ -1,4 +1,6 @@
 // Readers of names, literals and basic types: the rules that hold no expression.
+#![tactic(auto)]
+
 ghost use Rattle.std.specs.Prelude.{◌≡◌, [], ◌∷◌};
 ghost use Rattle.grammar.specs.Sets.{elem};
 ghost use Rattle.prediction.specs.plans.Plan.{seq, token, wrap};

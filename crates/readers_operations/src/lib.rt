@@ -1,4 +1,6 @@
 // Readers of operations and attributes, and of the parameters of initializers.
+#![tactic(auto)]
+
 ghost use Rattle.prediction.specs.plans.Plan.{call};
 ghost use Rattle.readers_core.specs.Notation.{<◌>, further, list_of};
 ghost use Rattle.readers_core.specs.Course.{one};

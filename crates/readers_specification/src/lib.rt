@@ -1,5 +1,7 @@
 // Readers of whole texts: rules 1 to 3. A module holds definitions, and a definition may be a module: the depth left falls
 // at the "{" of a module.
+#![tactic(auto)]
+
 ghost use Rattle.std.specs.Prelude.{◌≡◌};
 ghost use Rattle.grammar.specs.Sets.{elem};
 ghost use Rattle.kinds.specs.Kinds.{kind_of};
@@ -77,7 +79,7 @@ fn starts_definition(kind: u32) -> bool
 }
 
 // What is defined, before its ";".
-#[cycle(defined_definition_definitions_module_definition)]
+#[cycle(modules)]
 fn defined(tokens: &[u32], tree: &mut [u32], start: Reading, at: Reading, depth: u32) -> Reading
     requires { Addressable tokens.now }
     ensures { Within one tokens.now depth start defined (at, tree.old) (result, tree.new) }
@@ -90,7 +92,7 @@ fn defined(tokens: &[u32], tree: &mut [u32], start: Reading, at: Reading, depth:
 }
 
 // (2) definition
-#[cycle(defined_definition_definitions_module_definition)]
+#[cycle(modules)]
 fn definition(tokens: &[u32], tree: &mut [u32], at: Reading, depth: u32) -> Reading
     requires { Addressable tokens.now }
     ensures { Reads one tokens.now depth < "definition" > (at, tree.old) (result, tree.new) }
@@ -101,7 +103,7 @@ fn definition(tokens: &[u32], tree: &mut [u32], at: Reading, depth: u32) -> Read
 }
 
 // One or more definitions.
-#[cycle(defined_definition_definitions_module_definition)]
+#[cycle(modules)]
 fn definitions(tokens: &[u32], tree: &mut [u32], at: Reading, depth: u32) -> Reading
     requires { Addressable tokens.now }
     ensures { Reads one tokens.now depth definitions (at, tree.old) (result, tree.new) }
@@ -116,7 +118,7 @@ fn definitions(tokens: &[u32], tree: &mut [u32], at: Reading, depth: u32) -> Rea
 }
 
 // (3) module: its definitions are read at one level of depth less.
-#[cycle(defined_definition_definitions_module_definition)]
+#[cycle(modules)]
 fn module_definition(tokens: &[u32], tree: &mut [u32], at: Reading, depth: u32) -> Reading
     requires { Addressable tokens.now }
     ensures { Reads one tokens.now depth < "module" > (at, tree.old) (result, tree.new) }

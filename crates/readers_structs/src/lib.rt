@@ -1,5 +1,7 @@
 // Readers of structs and unions, and of the declarations that hold types. Type, struct, member and union readers call each
 // other in a cycle; remaining depth falls at each opening mark.
+#![tactic(auto)]
+
 ghost use Rattle.std.specs.Prelude.{◌≡◌};
 ghost use Rattle.readers_core.specs.Notation.{<◌>, ◌*};
 ghost use Rattle.grammar.specs.Sets.{elem};
@@ -56,7 +58,7 @@ fn starts_case(kind: u32) -> bool
 }
 
 // (44) type_spec
-#[cycle(case_clause_constr_type_spec_element_spec_further_cases_further_members_member_member_list_struct_body_struct_type_switch_block_switch_body_type_spec_union_rest_union_type)]
+#[cycle(members)]
 pub fn type_spec(tokens: &[u32], tree: &mut [u32], at: Reading, depth: u32) -> Reading
     requires { Addressable tokens.now }
     ensures { Reads one tokens.now depth < "type_spec" > (at, tree.old) (result, tree.new) }
@@ -69,7 +71,7 @@ pub fn type_spec(tokens: &[u32], tree: &mut [u32], at: Reading, depth: u32) -> R
 }
 
 // (48) constr_type_spec
-#[cycle(case_clause_constr_type_spec_element_spec_further_cases_further_members_member_member_list_struct_body_struct_type_switch_block_switch_body_type_spec_union_rest_union_type)]
+#[cycle(members)]
 fn constr_type_spec(tokens: &[u32], tree: &mut [u32], at: Reading, depth: u32) -> Reading
     requires { Addressable tokens.now }
     ensures { Reads one tokens.now depth < "constr_type_spec" > (at, tree.old) (result, tree.new) }
@@ -83,7 +85,7 @@ fn constr_type_spec(tokens: &[u32], tree: &mut [u32], at: Reading, depth: u32) -
 }
 
 // (69) struct_type
-#[cycle(case_clause_constr_type_spec_element_spec_further_cases_further_members_member_member_list_struct_body_struct_type_switch_block_switch_body_type_spec_union_rest_union_type)]
+#[cycle(members)]
 fn struct_type(tokens: &[u32], tree: &mut [u32], at: Reading, depth: u32) -> Reading
     requires { Addressable tokens.now }
     ensures { Reads one tokens.now depth < "struct_type" > (at, tree.old) (result, tree.new) }
@@ -95,7 +97,7 @@ fn struct_type(tokens: &[u32], tree: &mut [u32], at: Reading, depth: u32) -> Rea
 }
 
 // The members of a struct between their braces.
-#[cycle(case_clause_constr_type_spec_element_spec_further_cases_further_members_member_member_list_struct_body_struct_type_switch_block_switch_body_type_spec_union_rest_union_type)]
+#[cycle(members)]
 fn struct_body(tokens: &[u32], tree: &mut [u32], at: Reading, depth: u32) -> Reading
     requires { Addressable tokens.now }
     ensures { Reads one tokens.now depth struct_body (at, tree.old) (result, tree.new) }
@@ -109,7 +111,7 @@ fn struct_body(tokens: &[u32], tree: &mut [u32], at: Reading, depth: u32) -> Rea
 }
 
 // (70) member_list: one member alone leaves no record.
-#[cycle(case_clause_constr_type_spec_element_spec_further_cases_further_members_member_member_list_struct_body_struct_type_switch_block_switch_body_type_spec_union_rest_union_type)]
+#[cycle(members)]
 fn member_list(tokens: &[u32], tree: &mut [u32], at: Reading, depth: u32) -> Reading
     requires { Addressable tokens.now }
     ensures { Reads one tokens.now depth < "member_list" > (at, tree.old) (result, tree.new) }
@@ -123,7 +125,7 @@ fn member_list(tokens: &[u32], tree: &mut [u32], at: Reading, depth: u32) -> Rea
 }
 
 // Members, as many as there are.
-#[cycle(case_clause_constr_type_spec_element_spec_further_cases_further_members_member_member_list_struct_body_struct_type_switch_block_switch_body_type_spec_union_rest_union_type)]
+#[cycle(members)]
 fn further_members(tokens: &[u32], tree: &mut [u32], at: Reading, depth: u32) -> Reading
     requires { Addressable tokens.now }
     ensures { Reads one tokens.now depth (< "member" > *) (at, tree.old) (result, tree.new) }
@@ -136,7 +138,7 @@ fn further_members(tokens: &[u32], tree: &mut [u32], at: Reading, depth: u32) ->
 }
 
 // (71) member
-#[cycle(case_clause_constr_type_spec_element_spec_further_cases_further_members_member_member_list_struct_body_struct_type_switch_block_switch_body_type_spec_union_rest_union_type)]
+#[cycle(members)]
 fn member(tokens: &[u32], tree: &mut [u32], at: Reading, depth: u32) -> Reading
     requires { Addressable tokens.now }
     ensures { Reads one tokens.now depth < "member" > (at, tree.old) (result, tree.new) }
@@ -148,7 +150,7 @@ fn member(tokens: &[u32], tree: &mut [u32], at: Reading, depth: u32) -> Reading
 }
 
 // (72) union_type
-#[cycle(case_clause_constr_type_spec_element_spec_further_cases_further_members_member_member_list_struct_body_struct_type_switch_block_switch_body_type_spec_union_rest_union_type)]
+#[cycle(members)]
 fn union_type(tokens: &[u32], tree: &mut [u32], at: Reading, depth: u32) -> Reading
     requires { Addressable tokens.now }
     ensures { Reads one tokens.now depth < "union_type" > (at, tree.old) (result, tree.new) }
@@ -159,7 +161,7 @@ fn union_type(tokens: &[u32], tree: &mut [u32], at: Reading, depth: u32) -> Read
 }
 
 // What stands behind the name of a union that began where `start` stands.
-#[cycle(case_clause_constr_type_spec_element_spec_further_cases_further_members_member_member_list_struct_body_struct_type_switch_block_switch_body_type_spec_union_rest_union_type)]
+#[cycle(members)]
 fn union_rest(tokens: &[u32], tree: &mut [u32], start: Reading, at: Reading, depth: u32) -> Reading
     requires { Addressable tokens.now }
     ensures { Within one tokens.now depth start union_rest (at, tree.old) (result, tree.new) }
@@ -181,7 +183,7 @@ fn switch_head(tokens: &[u32], tree: &mut [u32], at: Reading, depth: u32) -> Rea
 }
 
 // The cases of a union between their braces.
-#[cycle(case_clause_constr_type_spec_element_spec_further_cases_further_members_member_member_list_struct_body_struct_type_switch_block_switch_body_type_spec_union_rest_union_type)]
+#[cycle(members)]
 fn switch_block(tokens: &[u32], tree: &mut [u32], at: Reading, depth: u32) -> Reading
     requires { Addressable tokens.now }
     ensures { Reads one tokens.now depth switch_block (at, tree.old) (result, tree.new) }
@@ -195,7 +197,7 @@ fn switch_block(tokens: &[u32], tree: &mut [u32], at: Reading, depth: u32) -> Re
 }
 
 // (74) switch_body: one case alone leaves no record.
-#[cycle(case_clause_constr_type_spec_element_spec_further_cases_further_members_member_member_list_struct_body_struct_type_switch_block_switch_body_type_spec_union_rest_union_type)]
+#[cycle(members)]
 fn switch_body(tokens: &[u32], tree: &mut [u32], at: Reading, depth: u32) -> Reading
     requires { Addressable tokens.now }
     ensures { Reads one tokens.now depth < "switch_body" > (at, tree.old) (result, tree.new) }
@@ -209,7 +211,7 @@ fn switch_body(tokens: &[u32], tree: &mut [u32], at: Reading, depth: u32) -> Rea
 }
 
 // Further cases, as many as there are.
-#[cycle(case_clause_constr_type_spec_element_spec_further_cases_further_members_member_member_list_struct_body_struct_type_switch_block_switch_body_type_spec_union_rest_union_type)]
+#[cycle(members)]
 fn further_cases(tokens: &[u32], tree: &mut [u32], at: Reading, depth: u32) -> Reading
     requires { Addressable tokens.now }
     ensures { Reads one tokens.now depth (< "case" > *) (at, tree.old) (result, tree.new) }
@@ -222,7 +224,7 @@ fn further_cases(tokens: &[u32], tree: &mut [u32], at: Reading, depth: u32) -> R
 }
 
 // (75) case
-#[cycle(case_clause_constr_type_spec_element_spec_further_cases_further_members_member_member_list_struct_body_struct_type_switch_block_switch_body_type_spec_union_rest_union_type)]
+#[cycle(members)]
 fn case_clause(tokens: &[u32], tree: &mut [u32], at: Reading, depth: u32) -> Reading
     requires { Addressable tokens.now }
     ensures { Reads one tokens.now depth < "case" > (at, tree.old) (result, tree.new) }
@@ -247,7 +249,7 @@ fn further_labels(tokens: &[u32], tree: &mut [u32], at: Reading, depth: u32) -> 
 }
 
 // (77) element_spec
-#[cycle(case_clause_constr_type_spec_element_spec_further_cases_further_members_member_member_list_struct_body_struct_type_switch_block_switch_body_type_spec_union_rest_union_type)]
+#[cycle(members)]
 fn element_spec(tokens: &[u32], tree: &mut [u32], at: Reading, depth: u32) -> Reading
     requires { Addressable tokens.now }
     ensures { Reads one tokens.now depth < "element_spec" > (at, tree.old) (result, tree.new) }

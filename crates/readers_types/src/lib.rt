@@ -1,5 +1,7 @@
 // Readers of types and declarators, but for structs and unions. A sequence holds a type, which may be a sequence: four readers
 // call each other in a cycle, and remaining depth falls at the "<" of a sequence.
+#![tactic(auto)]
+
 ghost use Rattle.std.specs.Prelude.{◌≡◌};
 ghost use Rattle.prediction.specs.plans.Plan.{call, group};
 ghost use Rattle.readers_core.specs.Notation.{<◌>, ◌*, further};
@@ -282,7 +284,7 @@ fn sequence_bound(tokens: &[u32], tree: &mut [u32], at: Reading, depth: u32) -> 
 }
 
 // What a sequence has between its angle brackets.
-#[cycle(sequence_body_sequence_type_simple_type_spec_template_type_spec)]
+#[cycle(sequences)]
 fn sequence_body(tokens: &[u32], tree: &mut [u32], at: Reading, depth: u32) -> Reading
     requires { Addressable tokens.now }
     ensures { Reads one tokens.now depth sequence_body (at, tree.old) (result, tree.new) }
@@ -297,7 +299,7 @@ fn sequence_body(tokens: &[u32], tree: &mut [u32], at: Reading, depth: u32) -> R
 }
 
 // (80) sequence_type
-#[cycle(sequence_body_sequence_type_simple_type_spec_template_type_spec)]
+#[cycle(sequences)]
 fn sequence_type(tokens: &[u32], tree: &mut [u32], at: Reading, depth: u32) -> Reading
     requires { Addressable tokens.now }
     ensures { Reads one tokens.now depth < "sequence_type" > (at, tree.old) (result, tree.new) }
@@ -308,7 +310,7 @@ fn sequence_type(tokens: &[u32], tree: &mut [u32], at: Reading, depth: u32) -> R
 }
 
 // (47) template_type_spec
-#[cycle(sequence_body_sequence_type_simple_type_spec_template_type_spec)]
+#[cycle(sequences)]
 fn template_type_spec(tokens: &[u32], tree: &mut [u32], at: Reading, depth: u32) -> Reading
     requires { Addressable tokens.now }
     ensures { Reads one tokens.now depth < "template_type_spec" > (at, tree.old) (result, tree.new) }
@@ -322,7 +324,7 @@ fn template_type_spec(tokens: &[u32], tree: &mut [u32], at: Reading, depth: u32)
 }
 
 // (45) simple_type_spec
-#[cycle(sequence_body_sequence_type_simple_type_spec_template_type_spec)]
+#[cycle(sequences)]
 pub fn simple_type_spec(tokens: &[u32], tree: &mut [u32], at: Reading, depth: u32) -> Reading
     requires { Addressable tokens.now }
     ensures { Reads one tokens.now depth < "simple_type_spec" > (at, tree.old) (result, tree.new) }

@@ -1,5 +1,7 @@
 // Readers of values: rules 13 to 23. Rules 13 to 18 share their beginning with other definitions, so they are read
 // from "valuetype" on, in the frame of the definition, which begins at `start`.
+#![tactic(auto)]
+
 ghost use Rattle.std.specs.Prelude.{◌≡◌};
 ghost use Rattle.grammar.specs.Sets.{elem};
 ghost use Rattle.grammar.specs.Names.{rule};

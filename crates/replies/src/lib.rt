@@ -1,6 +1,8 @@
 // What the reader says: a number, a place in bytes, a token count (in row 5 a keyword's kind) and a record count.
 //
 // Each row of the paper's table has its constructor.
+#![tactic(auto)]
+
 ghost use Rattle.std.specs.Prelude.{◌≡◌};
 ghost use Rattle.replies.specs.Replies as rows;
 

@@ -1,4 +1,6 @@
 // The bytes of one token, handed back as that part of the caller's text.
+#![tactic(auto)]
+
 ghost use Rattle.std.specs.Prelude.{◌≡◌, length};
 ghost use Rattle.spelling.specs.Spelling as specs;
 

@@ -1,4 +1,6 @@
 // Tables of records: a record is a fixed number of 32-bit numbers, the table's width.
+#![tactic(auto)]
+
 ghost use Rattle.std.specs.Prelude.{◌≡◌, [], ◌∷◌, ◌<◌};
 ghost use Rattle.tables.specs.Tables.{number_end, put, zeroed, token_width, node_width};
 

@@ -1,4 +1,6 @@
 // The bytes of a text: what a lexeme is, one byte at a place, and the bytes of one class in a row.
+#![tactic(auto)]
+
 ghost use Rattle.std.specs.Prelude.{leb, length, drop, ◌≡◌, ◌+◌, ◌≤◌, ◌<◌, min};
 ghost use Rattle.text.specs.Bytes.{at, run, space, letter, digit, octal, hexadecimal, wordly, in_line};
 ghost use Rattle.text.specs.Classes.{starless, ordinary, member, block};

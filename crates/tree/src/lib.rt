@@ -1,4 +1,6 @@
 // The tree part: the tree of the tokens in a lent table, or the token that is blamed.
+#![tactic(auto)]
+
 ghost use Rattle.std.specs.Prelude.{◌≡◌};
 ghost use Rattle.tree.specs.Conclusion.{place_in, complete, concluded, kept_tree};
 ghost use Rattle.grammar.specs.Idl.{idl};

@@ -1,4 +1,6 @@
 // Words: identifiers, keywords, and keywords in another case.
+#![tactic(auto)]
+
 ghost use Rattle.std.specs.Prelude.{true, ◌≡◌, suc, ◌+◌, ◌≤◌, ◌<◌, length, get_or};
 ghost use Rattle.kinds.specs.Kinds.{keyword, same};
 ghost use Rattle.text.specs.Bytes.{at, letter};

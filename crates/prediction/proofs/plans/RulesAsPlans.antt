@@ -8,7 +8,7 @@ use Rattle.grammar.specs.Forest.{Forest, join}
 use Rattle.grammar.specs.Rule.{RightSide, terminal, nonterminal, sequence, choice, nothing, repeat, Edition, right_side}
 use Rattle.prediction.specs.plans.Plan.{Plan, token, call, seq, alt, skip, many, PlanDerives, plan_token}
 use Rattle.prediction.specs.plans.Plan.{plan_call, plan_wrap, plan_seq, plan_left, plan_right, plan_skip}
-use Rattle.prediction.specs.plans.Plan.{plan_none, plan_more}
+use Rattle.prediction.specs.plans.Plan.{plan_none, plan_more, plan_group}
 use Rattle.prediction.specs.plans.RulesAsPlans.{as_plan, rule_plan}
 
 module _ {E : Edition} {s : ℕ → ℕ} where
@@ -49,13 +49,15 @@ module _ {E : Edition} {s : ℕ → ℕ} where
   from_plan (plan_token e) as_token = derive_terminal e
   from_plan (plan_call {n = n} {i = i} {j = j} {f = f} (plan_seq x plan_wrap) e) as_call =
       subst (λ (z : Forest). Derives E s (nonterminal n) i j f z) (sym e)
-      (derive_rule (from_plan x (is_plan (right_side E n))))
+      (derive_rule (from_plan {e = right_side E n} x (is_plan (right_side E n))))
   from_plan (plan_seq a b) (as_seq x y) = derive_sequence (from_plan a x) (from_plan b y)
   from_plan (plan_left a) (as_alt x y) = derive_left (from_plan a x)
   from_plan (plan_right a) (as_alt x y) = derive_right (from_plan a y)
   from_plan plan_skip as_skip = derive_nothing
   from_plan plan_none (as_many x) = derive_none
   from_plan (plan_more a b) (as_many x) = derive_more (from_plan a x) (from_plan b (as_many x))
+  from_plan (plan_group x d y) e = elim e [ ]
+  from_plan plan_wrap e = elim e [ ]
 
   pub from_rule_plans : (e : RightSide) {i j : ℕ} {f g : Forest} → PlanDerives (rule_plan E) s (as_plan e) i j f g →
       Derives E s e i j f g

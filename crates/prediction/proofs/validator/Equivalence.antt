@@ -46,6 +46,7 @@ module _ {Q : ℕ → Plan} {s : ℕ → ℕ} where
   pub sub_some : (xss yss : List (List Plan)) {i j : ℕ} {f g : Forest} → T (paths_in xss yss) → Some Q s i j f g xss →
       Some Q s i j f g yss
   unfolding paths_in
+  sub_some [] yss u d = elim d [ ]
   sub_some (xs ∷ xss) yss u (here d) = in_some xs yss (and_left (path_in xs yss) (paths_in xss yss) u) d
   sub_some (xs ∷ xss) yss u (there d) = sub_some xss yss (and_right (path_in xs yss) (paths_in xss yss) u) d
 
@@ -61,6 +62,7 @@ module _ {Q : ℕ → Plan} {s : ℕ → ℕ} where
     where
       go : Both Q s i j end g (paths (Q n)) (xs ∷ []) → PlanDerives Q s (seq (call n) (chain xs)) i j end g
       go (both {h = h} u (here v)) = plan_seq (plan_call (from_paths (Q n) u) (sym (join_end h))) v
+      go (both u (there v)) = elim v [ ]
 
   lead_to : (l : List ℕ) (x : Plan) (xs : List Plan) {i j : ℕ} {g : Forest} →
       PlanDerives Q s (seq x (chain xs)) i j end g → Some Q s i j end g (lead Q l x xs)
@@ -82,6 +84,7 @@ module _ {Q : ℕ → Plan} {s : ℕ → ℕ} where
       PlanDerives Q s (seq x (chain xs)) i j end g
   unfolding chain
   just (here d) = d
+  just (there d) = elim d [ ]
 
   lead_from : (l : List ℕ) (x : Plan) (xs : List Plan) {i j : ℕ} {g : Forest} → Some Q s i j end g (lead Q l x xs) →
       PlanDerives Q s (seq x (chain xs)) i j end g
@@ -103,6 +106,7 @@ module _ {Q : ℕ → Plan} {s : ℕ → ℕ} where
   leads_to : (l : List ℕ) (xss : List (List Plan)) {i j : ℕ} {g : Forest} → Some Q s i j end g xss →
       Some Q s i j end g (leads Q l xss)
   unfolding leads chain
+  leads_to l [] d = elim d [ ]
   leads_to l ([] ∷ xss) (here d) = here d
   leads_to l ([] ∷ xss) (there d) = there (leads_to l xss d)
   leads_to l ((x ∷ xs) ∷ xss) (here d) = some_left (lead Q l x xs) (leads Q l xss) (lead_to l x xs d)
@@ -111,6 +115,7 @@ module _ {Q : ℕ → Plan} {s : ℕ → ℕ} where
   leads_from : (l : List ℕ) (xss : List (List Plan)) {i j : ℕ} {g : Forest} → Some Q s i j end g (leads Q l xss) →
       Some Q s i j end g xss
   unfolding leads chain
+  leads_from l [] d = elim d [ ]
   leads_from l ([] ∷ xss) (here d) = here d
   leads_from l ([] ∷ xss) (there d) = there (leads_from l xss d)
   leads_from l ((x ∷ xs) ∷ xss) {i} {j} {g} d =

@@ -35,6 +35,7 @@ module _ {T : ℕ → Plan} {s : ℕ → ℕ} where
 
   pub some_left : (xss yss : List (List Plan)) {i j : ℕ} {f g : Forest} → Some T s i j f g xss →
       Some T s i j f g (xss ++ yss)
+  some_left [] yss d = elim d [ ]
   some_left (xs ∷ xss) yss (here d) = here d
   some_left (xs ∷ xss) yss (there d) = there (some_left xss yss d)
 
@@ -57,12 +58,14 @@ module _ {T : ℕ → Plan} {s : ℕ → ℕ} where
   pub befores_to : (xss : List (List Plan)) (ys : List Plan) {i m j : ℕ} {f h g : Forest} → Some T s i m f h xss →
       PlanDerives T s (chain ys) m j h g → Some T s i j f g (befores xss ys)
   unfolding befores
+  befores_to [] ys d e = elim d [ ]
   befores_to (xs ∷ xss) ys (here d) e = here (chain_append xs ys d e)
   befores_to (xs ∷ xss) ys (there d) e = there (befores_to xss ys d e)
 
   pub befores_from : (xss : List (List Plan)) (ys : List Plan) {i j : ℕ} {f g : Forest} →
       Some T s i j f g (befores xss ys) → Both T s i j f g xss (ys ∷ [])
   unfolding befores
+  befores_from [] ys d = elim d [ ]
   befores_from (xs ∷ xss) ys (here d) = let (m, h, u, v) = chain_split xs ys d in both (here u) (here v)
   befores_from (xs ∷ xss) ys (there d) = go (befores_from xss ys d)
     where
@@ -72,17 +75,20 @@ module _ {T : ℕ → Plan} {s : ℕ → ℕ} where
   cross_to : (xss yss : List (List Plan)) {i m j : ℕ} {f h g : Forest} → Some T s i m f h xss → Some T s m j h g yss →
       Some T s i j f g (cross xss yss)
   unfolding cross
+  cross_to xss [] d e = elim e [ ]
   cross_to xss (ys ∷ yss) d (here e) = some_left (befores xss ys) (cross xss yss) (befores_to xss ys d e)
   cross_to xss (ys ∷ yss) d (there e) = some_right (befores xss ys) (cross xss yss) (cross_to xss yss d e)
 
   cross_from : (xss yss : List (List Plan)) {i j : ℕ} {f g : Forest} → Some T s i j f g (cross xss yss) →
       Both T s i j f g xss yss
   unfolding cross
+  cross_from xss [] d = elim d [ ]
   cross_from xss (ys ∷ yss) {i} {j} {f} {g} d =
       go (some_cases (befores xss ys) (cross xss yss) d) (λ e. cross_from xss yss e)
     where
       wide : Both T s i j f g xss (ys ∷ []) → Both T s i j f g xss (ys ∷ yss)
       wide (both u (here v)) = both u (here v)
+      wide (both u (there v)) = elim v [ ]
 
       wide_r : Both T s i j f g xss yss → Both T s i j f g xss (ys ∷ yss)
       wide_r (both u v) = both u (there v)
@@ -102,6 +108,7 @@ module _ {T : ℕ → Plan} {s : ℕ → ℕ} where
   single_from : (x : Plan) {i j : ℕ} {f g : Forest} → Some T s i j f g ((x ∷ []) ∷ []) → PlanDerives T s x i j f g
   unfolding chain
   single_from x (here d) = unseq d
+  single_from x (there d) = elim d [ ]
 
   pub to_paths : (p : Plan) {i j : ℕ} {f g : Forest} → PlanDerives T s p i j f g → Some T s i j f g (paths p)
   unfolding paths chain
@@ -158,4 +165,5 @@ module _ {T : ℕ → Plan} {s : ℕ → ℕ} where
       go (inl u) x y = plan_left (x u)
       go (inr u) x y = plan_right (y u)
   from_paths skip (here d) = d
+  from_paths skip (there d) = elim d [ ]
   from_paths (many a) d = single_from (many a) d

@@ -1,6 +1,6 @@
 -- `text::end_in_window` meets its contract. The loop's invariant: the end is what is known of it from the bytes looked at.
 -- One byte more is one step of the law. Assumes nothing.
-use Prim.Native.Nat.{ℕ, ◌-◌, min}
+use Prim.Native.Nat.{ℕ, min}
 use mathlib.Core.Bool.{Bool, cond}
 use mathlib.Core.Path.{◌≡◌, ap, sym, ◌∙◌}
 use native.Mathlib.Omega.{arith}

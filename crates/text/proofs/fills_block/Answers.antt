@@ -1,6 +1,6 @@
 -- `text::fills_block` meets its contract. The loop's invariant: whether the run reaches through the bytes looked at.
 -- One byte more is one step of the law. Assumes nothing.
-use Prim.Native.Nat.{ℕ, ◌-◌}
+use Prim.Native.Nat.{ℕ}
 use mathlib.Core.Path.{ap, ◌∙◌}
 use native.Mathlib.Omega.{arith}
 use lib.Dec.{leb}

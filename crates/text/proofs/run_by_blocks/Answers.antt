@@ -1,10 +1,10 @@
 -- `text::run_by_blocks` meets its contract. The loop's invariant: the bytes passed are of the class.
 -- A block that the run fills moves it on; then what is left of the run is counted. Assumes nothing.
-use Prim.Native.Nat.{ℕ, ◌-◌}
+use Prim.Native.Nat.{ℕ}
 use mathlib.Core.List.{List}
 use mathlib.Core.Path.{ap, sym, ◌∙◌}
 use native.Mathlib.Omega.{arith}
-use borrow.Author.Tests.{not-false, leb-true}
+use borrow.Author.Tests.{leb-true}
 use lib.Dec.{leb}
 use lib.ListN.{length, drop, length-drop}
 use Rattle.text.specs.Bytes.{run}

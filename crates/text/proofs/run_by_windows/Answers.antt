@@ -1,6 +1,6 @@
 -- `text::run_by_windows` meets its contract. The loop's invariant: the bytes passed are of the class.
 -- A window in which the run does not end moves it on; an end in it is the run's. Assumes nothing.
-use Prim.Native.Nat.{ℕ, ◌+◌, ◌-◌, min}
+use Prim.Native.Nat.{ℕ, ◌+◌, min}
 use mathlib.Core.List.{List}
 use mathlib.Core.Path.{◌≡◌, ap, sym, ◌∙◌}
 use native.Mathlib.Omega.{arith}

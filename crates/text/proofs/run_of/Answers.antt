@@ -1,6 +1,5 @@
 -- `text::run_of` meets its contract. The loop's invariant: the bytes passed are of the class, so the rest's run is left to count.
 -- A byte of the class moves the invariant on; any other, or the end of the text, ends the run. Assumes nothing.
-use Prim.Native.Nat.{◌-◌}
 use mathlib.Core.Path.{sym, ◌∙◌}
 use Rattle.text.proofs.Runs.{passed_none, passed_more, passed_stop, passed_all}
 use Rattle.text.proofs.run_of.Goals as goal

@@ -1,0 +1,12 @@
+-- `export` reads rule 9 in a frame of its own.
+-- Its calls are put together as its plan is. Assumes nothing.
+use Rattle.readers_core.proofs.Computing.{computing}
+use Rattle.grammar.specs.Names.{rule}
+use Rattle.readers_core.proofs.Frames.{frame}
+use Rattle.readers_core.proofs.Sequence.{◌▸◌}
+use mathlib.Core.Path.{refl}
+use Rattle.readers_interfaces.proofs.export.Goals as goal
+
+pub returns : goal.returns
+unfolding computing
+returns c = frame (rule "export") (c.exported-exported.ensures.in_any _ _ ▸ c.node.ensures.wraps refl _ _ _ tt)

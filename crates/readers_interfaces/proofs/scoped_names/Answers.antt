@@ -1,0 +1,47 @@
+-- `scoped_names` reads names with commas between them, by any rule that is a scoped name alone and so leaves no record.
+-- The part read so far as a continuation; what is left to read falls. Assumes nothing.
+use Rattle.readers_core.proofs.Computing.{computing}
+use Rattle.kinds.specs.Lists.{only}
+use Rattle.readers_core.specs.Course.{one}
+use Rattle.readers_core.proofs.Choosing.{among, except}
+use Rattle.readers_core.proofs.Repetition.{falls, far_here, far_more, far_over}
+use Rattle.readers_interfaces.proofs.Names.{by_name, interface_names}
+use Rattle.readers_core.proofs.Parts.{◌then◌}
+use mathlib.Core.List.{[], ◌∷◌}
+use mathlib.Core.Path.{◌∙◌, refl}
+use Rattle.readers_interfaces.proofs.scoped_names.Goals as goal
+
+pub loop-comma-smaller : goal.loop-comma-smaller
+unfolding computing
+loop-comma-smaller c =
+    falls {R = one} {start = 0} (among (only ",")) c.next_kind.ensures
+    c.loop-comma-test.true tt
+    ((c.take-comma.ensures.reads 0 _ then
+    by_name interface_names (c.scoped_name-names-in-loop-comma.ensures.at_any 0)).in_any 0)
+
+pub loop-comma-preserved : goal.loop-comma-preserved
+unfolding computing
+loop-comma-preserved c =
+    let turn = c.before.before.before.before.before in
+    let test = turn.before.before in (
+      c.scoped_name-names-in-loop-comma.auto.tree ∙ test.loop-comma.invariant.0,
+      λ n d start h. far_more (among (only ",")) test.next_kind.ensures turn.loop-comma-test.true tt
+          ((turn.take-comma.ensures.reads d _ then by_name h
+          (c.scoped_name-names-in-loop-comma.ensures.at_any d)).in_any start)
+          (test.loop-comma.invariant.1 n d start h),
+    )
+
+pub returns : goal.returns
+unfolding computing
+returns c =
+    record {
+      by_rule = λ n h. record {
+        at_any = λ d. by_name h (c.scoped_name-names.ensures.at_any d) then record {
+          in_any = λ start. far_over (except (only "," ∷ [])) c.next_kind.ensures (tt, c.loop-comma-test.false) tt
+              (c.loop-comma.invariant.1 n d start h);
+        };
+      };
+    }
+
+pub loop-comma-init : goal.loop-comma-init
+loop-comma-init c = (refl, λ n d start h. far_here)

@@ -1,0 +1,56 @@
+-- `starts_export` tells whether a kind is among those that rule 9 may start with.
+-- Above the words by one test, and up to there by the patterns of the match. Assumes nothing.
+use Rattle.kinds.specs.Kinds.{identifier, kind_of}
+use Rattle.kinds.specs.Lists.{kinds_of, only}
+use Rattle.grammar.specs.Sets.{elem}
+use Rattle.prediction.specs.Sets.{subset}
+use Rattle.readers_core.proofs.Choosing.{AnyOf, NoneOf, flat}
+use Rattle.readers_interfaces.specs.Plans.{export_starts, low_export_starts}
+use Rattle.readers_core.proofs.Starts.{below, only_last, starts, starts_not}
+use mathlib.Core.List.{[], ◌∷◌}
+use native.Mathlib.Omega.{arith}
+use Rattle.std.proofs.Common.{List, ℕ}
+use Rattle.readers_interfaces.proofs.starts_export.Goals as goal
+
+abbrev rest : List ℕ
+rest = kinds_of ("Object" ∷ "ValueBase" ∷ "any" ∷ "boolean" ∷ "octet" ∷ [])
+
+abbrev numbers : List ℕ
+numbers = kinds_of ("char" ∷ "double" ∷ "float" ∷ "long" ∷ "short" ∷ "unsigned" ∷ "wchar" ∷ [])
+
+abbrev results : List ℕ
+results = identifier ∷ kinds_of ("oneway" ∷ "string" ∷ "void" ∷ "wstring" ∷ [])
+
+abbrev others : List ℕ
+others = kinds_of ("attribute" ∷ "const" ∷ "exception" ∷ "readonly" ∷ "union" ∷ [])
+
+abbrev types : List ℕ
+types = kinds_of ("enum" ∷ "native" ∷ "struct" ∷ "typedef" ∷ [])
+
+pub returns-then-kind-gt-LAST_KEYWORD : goal.returns-then-kind-gt-LAST_KEYWORD
+unfolding AnyOf NoneOf below flat subset elem
+returns-then-kind-gt-LAST_KEYWORD c = only_last (kind_of "wstring") low_export_starts (kind_of "::") _ tt c.if-kind-gt-LAST_KEYWORD.true
+
+pub returns-in-57 : goal.returns-in-57
+unfolding AnyOf NoneOf below flat subset elem
+returns-in-57 c = starts types export_starts _ tt c.in-57.is
+
+pub returns-in-58 : goal.returns-in-58
+unfolding AnyOf NoneOf below flat subset elem
+returns-in-58 c = starts others export_starts _ tt c.in-58.is
+
+pub returns-in-44 : goal.returns-in-44
+unfolding AnyOf NoneOf below flat subset elem
+returns-in-44 c = starts results export_starts _ tt c.in-44.is
+
+pub returns-in-35 : goal.returns-in-35
+unfolding AnyOf NoneOf below flat subset elem
+returns-in-35 c = starts numbers export_starts _ tt c.in-35.is
+
+pub returns-in-23 : goal.returns-in-23
+unfolding AnyOf NoneOf below flat subset elem
+returns-in-23 c = starts rest export_starts _ tt c.in-23.is
+
+pub returns-in_default : goal.returns-in_default
+unfolding AnyOf NoneOf below flat subset elem
+returns-in_default c = starts_not (only "::" ∷ rest ∷ numbers ∷ results ∷ others ∷ types ∷ []) export_starts _ tt (c.in_default.in_default-own.rest, λ e. omega (arith, c.if-kind-gt-LAST_KEYWORD.false, e))

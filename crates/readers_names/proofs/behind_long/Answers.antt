@@ -1,0 +1,26 @@
+-- `behind_long` reads by its plan: the kind ahead tells the choice.
+-- What the plan comes to is what was called. Assumes nothing.
+use Rattle.readers_core.proofs.Computing.{computing}
+use Rattle.kinds.specs.Lists.{only}
+use Rattle.readers_core.proofs.Choosing.{among, except}
+use Rattle.readers_core.proofs.Frames.{chosen}
+use Rattle.readers_names.proofs.Words.{read_word}
+use mathlib.Core.List.{[], ◌∷◌}
+use mathlib.Core.Path.{refl}
+use Rattle.readers_names.proofs.behind_long.Goals as goal
+
+pub returns-in-40 : goal.returns-in-40
+unfolding computing
+returns-in-40 c =
+    let word = c.before.before.before.before.before in record {
+      at_any = λ d. chosen (among (only "long")) word.next_kind-next.ensures word.in-40.is
+          (read_word refl tt word.take-word.ensures c.node.ensures);
+    }
+
+pub returns-in_default : goal.returns-in_default
+unfolding computing
+returns-in_default c =
+    let arm = c.before.before.before.before.before in record {
+      at_any = λ d. chosen (except (only "long" ∷ [])) arm.next_kind-next.ensures arm.in_default.in_default-own.rest
+          (c.node-in_default.ensures.wraps refl _ _ _ tt);
+    }

@@ -1,0 +1,27 @@
+-- `boolean_literal` reads rule 40 in a frame of its own: the kind ahead tells the choice.
+-- Its calls are put together as its plan is. Assumes nothing.
+use Rattle.readers_core.proofs.Computing.{computing}
+use Rattle.kinds.specs.Lists.{only}
+use Rattle.grammar.specs.Names.{rule}
+use Rattle.readers_core.proofs.Choosing.{among, except}
+use Rattle.readers_core.proofs.Frames.{frame_on}
+use Rattle.readers_names.proofs.Words.{read_word}
+use mathlib.Core.List.{[], ◌∷◌}
+use mathlib.Core.Path.{refl}
+use Rattle.readers_names.proofs.boolean_literal.Goals as goal
+
+pub returns-in-18 : goal.returns-in-18
+unfolding computing
+returns-in-18 c =
+    let word = c.before.before.before.before.before in record {
+      at_any = λ d. frame_on (rule "boolean_literal") (among (only "TRUE")) word.next_kind-next.ensures
+          word.in-18.is (read_word refl tt word.take-word.ensures c.node.ensures);
+    }
+
+pub returns-in_default : goal.returns-in_default
+unfolding computing
+returns-in_default c =
+    let word = c.before.before.before.before.before in record {
+      at_any = λ d. frame_on (rule "boolean_literal") (except (only "TRUE" ∷ [])) word.next_kind-next.ensures
+          word.in_default.in_default-own.rest (read_word refl tt word.take-word-in_default.ensures c.node-in_default.ensures);
+    }

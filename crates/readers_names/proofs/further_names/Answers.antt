@@ -1,0 +1,42 @@
+-- `further_names` reads the steps behind a name: each turn is one more, and the steps end where no "::" stands ahead.
+-- The part read so far as a continuation; what is left to read falls. Assumes nothing.
+use Rattle.readers_core.proofs.Computing.{computing}
+use Rattle.kinds.specs.Lists.{only}
+use Rattle.readers_core.proofs.Choosing.{among, except}
+use Rattle.readers_core.proofs.Repetition.{falls, far_here, far_more, far_over}
+use Rattle.readers_core.proofs.Sequence.{◌▸◌}
+use Rattle.readers_core.specs.Course.{one}
+use mathlib.Core.List.{[], ◌∷◌}
+use mathlib.Core.Path.{◌∙◌, refl}
+use Rattle.readers_names.proofs.further_names.Goals as goal
+
+pub loop-mark-smaller : goal.loop-mark-smaller
+unfolding computing
+loop-mark-smaller c =
+    let name = c.before.before.before.before.before in let mark = name.before in
+    falls {R = one} {d = 0} (among (only "::")) mark.next_kind.ensures mark.loop-mark-test.true tt
+    (λ hs. (((mark.take-mark.ensures.reads _ _).in_any _ _) ▸ ((name.take-name.ensures.reads _ _).in_any _ _))
+    ▸ (c.node-names.ensures.wraps refl _ _ _ tt))
+
+pub loop-mark-preserved : goal.loop-mark-preserved
+unfolding computing
+loop-mark-preserved c =
+    let name = c.before.before.before.before.before in let mark = name.before in
+    let so_far = mark.loop-mark.invariant in (
+      c.node-names.auto.tree ∙ so_far.0,
+      λ d. far_more (among (only "::")) mark.next_kind.ensures mark.loop-mark-test.true tt
+          (λ hs. (((mark.take-mark.ensures.reads _ _).in_any _ _) ▸ ((name.take-name.ensures.reads _ _).in_any _ _))
+          ▸ (c.node-names.ensures.wraps refl _ _ _ tt)) (so_far.1 d),
+    )
+
+pub returns : goal.returns
+unfolding computing
+returns c = record {
+  at_any = λ d. record {
+    of_any = far_over (except (only "::" ∷ [])) c.next_kind.ensures (tt, c.loop-mark-test.false) tt
+        (c.loop-mark.invariant.1 d);
+  };
+}
+
+pub loop-mark-init : goal.loop-mark-init
+loop-mark-init c = (refl, λ d. far_here)

@@ -1,0 +1,15 @@
+-- `further_names` reads the steps behind a name: each turn is one more, and the steps end where no "::" stands ahead.
+use Prim.Native.Nat.{ℕ}
+use Rattle.readers_core.proofs.Repetition.{Far, remaining}
+use Rattle.readers_names.specs.Plans.{further_name}
+use Rattle.readers_core.specs.Course.{one}
+use lib.ListN.{length}
+use mathlib.Core.Path.{◌≡◌}
+use Rattle.readers_names.proofs.further_names.Given as goal
+
+abbrev pub invariant-loop-mark : goal.invariant-loop-mark
+invariant-loop-mark l =
+    (length l.tree ≡ length l.initial.tree) × ((d : ℕ) → Far one l.tokens d l.start further_name (l.at, l.initial.tree) (l.names, l.tree))
+
+abbrev pub decreases-loop-mark : goal.decreases-loop-mark
+decreases-loop-mark l = remaining l.tokens l.names

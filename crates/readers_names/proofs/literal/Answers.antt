@@ -1,0 +1,53 @@
+-- `literal` reads rule 39: one token or a string literal in a frame of its own, or a boolean literal, whose node is passed on.
+-- A choice takes the token that is there, strings by their kind; else the last alternative is read. Assumes nothing.
+use Rattle.readers_core.proofs.Computing.{computing}
+use Rattle.kinds.specs.Kinds.{integer, string}
+use Rattle.grammar.specs.Names.{rule}
+use Rattle.prediction.specs.plans.Plan.{seq}
+use Rattle.prediction.specs.Sets.{row}
+use Rattle.readers_core.proofs.Choosing.{AnyOf, among, any_row, except, none_row}
+use Rattle.readers_core.proofs.Frames.{frame, passed_on, taken_of}
+use Rattle.readers_core.proofs.Sequence.{◌▸◌}
+use Rattle.readers_core.specs.Notation.{make}
+use Rattle.readers_names.specs.Plans.{string_literal}
+use Rattle.readers_names.proofs.Words.{chosen_by, comes_as, read_word}
+use mathlib.Core.List.{[], ◌∷◌}
+use mathlib.Core.Logic.{inl, inr, ⊎_elim}
+use mathlib.Core.Path.{refl}
+use native.Mathlib.Omega.{arith}
+use Rattle.readers_names.proofs.literal.Goals as goal
+use Rattle.readers_names.proofs.literal.Goals.{in_default-via-then-next-lt2, in_default-via-else-next-lt2+else-next-lt7+else-next-lt9}
+
+pub returns-in-2 : goal.returns-in-2
+unfolding computing row
+returns-in-2 c =
+    let word = c.before.before.before.before.before in let next = word.next_kind-next in record {
+      at_any = λ d. frame (rule "literal") (taken_of (among (row integer 5)) next.ensures
+          (any_row integer 4 next.result (omega arith) (omega arith)) tt
+          (read_word refl tt word.take-token.ensures c.node.ensures));
+    }
+
+pub returns-in-7 : goal.returns-in-7
+unfolding comes_as AnyOf row
+returns-in-7 c =
+    let strings = c.before.before.before.before.before in
+    let test = strings.before in let next = test.next_kind-next in record {
+      at_any = λ d. frame (rule "literal") (chosen_by (λ k. seq (string_literal k) (make "literal")) (row string 2)
+          next.ensures (any_row string 1 next.result (omega arith) (omega arith)) tt
+          (((strings.string_literal-strings.ensures.reads _ _).in_any _ _) ▸ (c.node-in-7.ensures.wraps refl _ _ _ tt)));
+    }
+
+pub returns-in_default : goal.returns-in_default
+unfolding computing row
+returns-in_default c =
+    let outside = c.before.before.before.before.before in let next = outside.next_kind-next in record {
+      at_any = λ d. passed_on (rule "literal") (except (row integer 7 ∷ [])) next.ensures (
+        tt,
+        none_row integer 6 next.result
+            (elim c.in_default.branch [
+              | in_default-via-then-next-lt2 w ↦ inl (omega arith)
+              | in_default-via-else-next-lt2+else-next-lt7+else-next-lt9 w ↦ inr (omega arith)
+            ]),
+      ) refl tt
+          (c.boolean_literal.ensures.at_any d);
+    }

@@ -1,0 +1,27 @@
+-- `long_number` reads by its plan: "double" tells the first choice, and else the second is taken.
+-- What the plan comes to is what was called. Assumes nothing.
+use Rattle.readers_core.proofs.Computing.{computing}
+use Rattle.kinds.specs.Lists.{only}
+use Rattle.readers_core.proofs.Choosing.{among, except}
+use Rattle.readers_core.proofs.Frames.{chosen}
+use Rattle.readers_core.proofs.Sequence.{◌▸◌, unrecorded}
+use Rattle.readers_names.proofs.Words.{read_word}
+use mathlib.Core.List.{[], ◌∷◌}
+use mathlib.Core.Path.{refl}
+use Rattle.readers_names.proofs.long_number.Goals as goal
+
+pub returns-in-30 : goal.returns-in-30
+unfolding computing
+returns-in-30 c =
+    let word = c.before.before.before.before.before in record {
+      at_any = λ d. chosen (among (only "double")) word.next_kind-next.ensures word.in-30.is
+          (read_word refl tt word.take-word.ensures c.node.ensures);
+    }
+
+pub returns-in_default : goal.returns-in_default
+unfolding computing
+returns-in_default c =
+    let arm = c.before.before.before.before.before in record {
+      at_any = λ d. chosen (except (only "double" ∷ [])) arm.next_kind-next.ensures arm.in_default.in_default-own.rest
+          ((c.behind_long.ensures.at_any _) ▸ unrecorded tt ▸ unrecorded tt);
+    }

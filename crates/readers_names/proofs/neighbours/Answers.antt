@@ -1,0 +1,36 @@
+-- `neighbours` reads tokens of one kind as long as one stands ahead.
+-- The part read so far as a continuation; what is left to read falls. Assumes nothing.
+use Rattle.readers_core.proofs.Computing.{computing}
+use Rattle.readers_core.specs.Course.{one, table_in}
+use Rattle.readers_core.proofs.Choosing.{among, except}
+use Rattle.readers_core.proofs.Repetition.{falls, far_here, far_more, far_over, kind_again, kind_over}
+use mathlib.Core.List.{[], ◌∷◌}
+use Rattle.readers_names.proofs.neighbours.Goals as goal
+
+pub loop-strings-smaller : goal.loop-strings-smaller
+unfolding computing
+loop-strings-smaller c =
+    let loop = c.before.before.before.before in let kind = loop.args.kind in
+    falls {R = one} {start = 0} (among (kind ∷ [])) c.next_kind.ensures c.loop-strings-test.true
+    (kind_again (table_in one) kind loop.requires.1) (λ hs. (c.take-strings.ensures.reads 0 []).in_any _ _)
+
+pub loop-strings-preserved : goal.loop-strings-preserved
+unfolding computing
+loop-strings-preserved c =
+    let loop = c.before.before.before.before in let kind = loop.args.kind in
+    λ R d w start. far_more (among (kind ∷ [])) c.next_kind.ensures c.loop-strings-test.true
+    (kind_again (table_in R) kind loop.requires.1) (λ hs. (c.take-strings.ensures.reads _ _).in_any _ _)
+    (loop.loop-strings.invariant R d w start)
+
+pub returns : goal.returns
+unfolding computing
+returns c =
+    let loop = c.before.before.before in let kind = loop.args.kind in record {
+      reads = λ {R} d w. record {
+        in_any = λ start. far_over (except ((kind ∷ []) ∷ [])) c.next_kind.ensures (tt, c.loop-strings-test.false)
+            (kind_over (table_in R) kind) (loop.loop-strings.invariant R d w start);
+      };
+    }
+
+pub loop-strings-init : goal.loop-strings-init
+loop-strings-init c = λ R d w start. far_here

@@ -1,0 +1,31 @@
+-- `signed_int` reads rule 55 in a frame of its own: the kind ahead tells the choice.
+-- Its calls are put together as its plan is. Assumes nothing.
+use Rattle.readers_core.proofs.Computing.{computing}
+use Rattle.kinds.specs.Lists.{only}
+use Rattle.grammar.specs.Names.{rule}
+use Rattle.readers_core.proofs.Choosing.{among, except}
+use Rattle.readers_core.proofs.Frames.{frame_on}
+use Rattle.readers_core.proofs.Sequence.{◌▸◌, unrecorded}
+use Rattle.readers_names.proofs.Words.{read_word}
+use mathlib.Core.List.{[], ◌∷◌}
+use mathlib.Core.Path.{refl}
+use Rattle.readers_names.proofs.signed_int.Goals as goal
+
+pub returns-in-51 : goal.returns-in-51
+unfolding computing
+returns-in-51 c =
+    let word = c.before.before.before.before.before in record {
+      at_any = λ d. frame_on (rule "signed_int") (among (only "short")) word.next_kind-next.ensures
+          word.in-51.is (read_word refl tt word.take-word.ensures c.node.ensures
+          ▸ unrecorded tt);
+    }
+
+pub returns-in_default : goal.returns-in_default
+unfolding computing
+returns-in_default c =
+    let word = c.before.before.before.before.before in record {
+      at_any = λ d. frame_on (rule "signed_int") (except (only "short" ∷ [])) word.next_kind-next.ensures
+          word.in_default.in_default-own.rest
+          ((((word.take-word-in_default.ensures.reads _ _).in_any _ _) ▸ (c.behind_long.ensures.at_any _))
+          ▸ unrecorded tt);
+    }

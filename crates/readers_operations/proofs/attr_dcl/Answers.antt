@@ -1,0 +1,23 @@
+-- `attr_dcl` reads rule 85 in a frame of its own.
+-- Its calls are put together as its plan is. Assumes nothing.
+use Rattle.readers_core.proofs.Computing.{computing}
+use Rattle.grammar.specs.Names.{rule}
+use Rattle.readers_core.proofs.Frames.{frame}
+use Rattle.readers_core.proofs.Lines.{◌▸▸◌, append}
+use Rattle.readers_core.proofs.Sequence.{◌▸◌}
+use borrow.Author.Rules.{rules}
+use mathlib.Core.Logic.{inl, inr}
+use mathlib.Core.Path.{refl}
+use Rattle.readers_operations.proofs.attr_dcl.Goals as goal
+
+pub list-names-requires : goal.list-names-requires
+list-names-requires c = (search rules, inr (inl refl))
+
+pub returns : goal.returns
+unfolding computing append
+returns c =
+    let names = c.before.before.before.before.before.before.before in
+    let typed = names.before.before.before.before in
+    frame (rule "attr_dcl") ((typed.readonly-word.ensures.reads _ _).in_any _ _ ▸
+    (typed.take-words.ensures.reads _ _).in_any _ _ ▸ typed.param_type_spec-spec.ensures.in_any _ _ ▸
+    (names.list-names.ensures.in_any _ _ ▸▸ c.node.ensures.wraps refl _ _ _ tt))

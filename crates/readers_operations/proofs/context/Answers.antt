@@ -1,0 +1,31 @@
+-- `context` reads rule 94 in a frame of its own, or nothing: string literals at one level of depth less.
+-- The kind ahead tells which. Assumes nothing.
+use Rattle.readers_core.proofs.Choosing.{among, except}
+use Rattle.readers_core.proofs.Computing.{computing}
+use Rattle.kinds.specs.Lists.{only}
+use Rattle.grammar.specs.Names.{rule}
+use Rattle.readers_core.proofs.Frames.{frame}
+use Rattle.readers_core.proofs.Groups.{enclosed}
+use Rattle.readers_core.proofs.Lines.{◌▸▸◌, append}
+use Rattle.readers_core.proofs.Sequence.{◌▸◌}
+use Rattle.readers_core.proofs.Parts.{left_out, picked}
+use mathlib.Core.Path.{refl}
+use mathlib.Core.List.{[], ◌∷◌}
+use Rattle.readers_operations.proofs.context.Goals as goal
+
+pub returns-then-next-eq-CONTEXT : goal.returns-then-next-eq-CONTEXT
+unfolding computing append
+returns-then-next-eq-CONTEXT c =
+    let listed = c.before.before.before.before.before.before in
+    let word = listed.before.before.before in
+    picked (among (only "context")) word.next_kind-next.ensures word.if-next-eq-CONTEXT.true
+    (frame (rule "context_expr") ((word.take-word.ensures.reads _ _).in_any _ _ ▸
+    (enclosed listed.open-inside.ensures (record {
+      in_any = λ start hs. (listed.string_literal-first.ensures.reads _ _).in_any _ _ ▸▸
+          (listed.further_strings-listed.ensures.reads _ _).in_any _ _;
+    }) c.take-closed.ensures).in_any _ _ ▸
+    c.node.ensures.wraps refl _ _ _ tt))
+
+pub returns : goal.returns
+unfolding computing
+returns c = picked (except (only "context" ∷ [])) c.next_kind-next.ensures (tt, c.if-next-eq-CONTEXT.false) left_out

@@ -1,0 +1,37 @@
+-- `further_strings` reads string literals while a comma stands ahead.
+-- The part read so far as a continuation; what is left to read falls. Assumes nothing.
+use Rattle.readers_core.proofs.Computing.{computing}
+use Rattle.kinds.specs.Lists.{only}
+use Rattle.readers_core.specs.Course.{one}
+use Rattle.readers_core.proofs.Choosing.{among, except}
+use Rattle.readers_core.proofs.Repetition.{falls, far_here, far_more, far_over}
+use Rattle.readers_core.proofs.Sequence.{◌▸◌}
+use mathlib.Core.List.{[], ◌∷◌}
+use Rattle.readers_operations.proofs.further_strings.Goals as goal
+
+pub loop-comma-smaller : goal.loop-comma-smaller
+unfolding computing
+loop-comma-smaller c =
+    falls {R = one} {start = c.loop-comma.listed} (among (only ","))
+    c.next_kind.ensures c.loop-comma-test.true tt
+    (λ hs. (c.take-comma.ensures.reads 0 []).in_any _ _ ▸ (c.string_literal-listed.ensures.reads 0 []).in_any _ _)
+
+pub loop-comma-preserved : goal.loop-comma-preserved
+unfolding computing
+loop-comma-preserved c =
+    let test = c.before.before.before in
+    λ R d w start. far_more (among (only ",")) test.next_kind.ensures test.loop-comma-test.true tt
+    (λ hs. (c.take-comma.ensures.reads _ _).in_any _ _ ▸ (c.string_literal-listed.ensures.reads _ _).in_any _ _)
+    (c.loop-comma.invariant R d w start)
+
+pub returns : goal.returns
+unfolding computing
+returns c = record {
+  reads = λ {R} d w. record {
+    in_any = λ start hs. far_over (except (only "," ∷ [])) c.next_kind.ensures (tt, c.loop-comma-test.false) tt
+        (c.loop-comma.invariant R d w start) hs;
+  };
+}
+
+pub loop-comma-init : goal.loop-comma-init
+loop-comma-init = λ c R d w start. far_here

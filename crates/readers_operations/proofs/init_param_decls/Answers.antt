@@ -1,0 +1,27 @@
+-- `init_param_decls` reads rule 24: a comma tells that there are several, and else it has no record.
+-- By the law of such lists. Assumes nothing.
+use Rattle.kinds.specs.Lists.{only}
+use Rattle.readers_core.proofs.Computing.{computing}
+use Rattle.readers_core.proofs.Choosing.{among, except}
+use Rattle.readers_core.proofs.Lists.{one_part, several_parts}
+use borrow.Author.Rules.{rules}
+use mathlib.Core.List.{[], ◌∷◌}
+use mathlib.Core.Logic.{inr}
+use mathlib.Core.Path.{refl}
+use Rattle.readers_operations.proofs.init_param_decls.Goals as goal
+
+pub returns-then-next-eq-COMMA : goal.returns-then-next-eq-COMMA
+unfolding computing
+returns-then-next-eq-COMMA c =
+    let more = c.before.before.before.before.before.before.before in let comma = more.before.before in
+    several_parts refl comma.init_param_decl-first.ensures (among (only ","))
+    comma.next_kind-next.ensures comma.if-next-eq-COMMA.true tt more.further-listed.ensures refl c.node.ensures tt
+
+pub returns : goal.returns
+unfolding computing
+returns c =
+    one_part refl c.init_param_decl-first.ensures (except (only "," ∷ []))
+    c.next_kind-next.ensures (tt, c.if-next-eq-COMMA.false) (λ u. u) tt tt
+
+pub further-listed-requires : goal.further-listed-requires
+further-listed-requires c = (search rules, inr (inr (inr refl)))

@@ -1,0 +1,29 @@
+-- `parameters` reads parameters, or nothing.
+-- The kind ahead tells which. Assumes nothing.
+use Rattle.readers_core.proofs.Choosing.{among, except}
+use Rattle.readers_core.proofs.Computing.{computing}
+use Rattle.readers_core.proofs.Starts.{is_in, is_out}
+use Rattle.readers_core.proofs.Parts.{left_out, picked}
+use Rattle.readers_operations.specs.Plans.{directions}
+use mathlib.Core.Logic.{inl, inr}
+use mathlib.Core.Path.{refl}
+use mathlib.Core.List.{[], ◌∷◌}
+use borrow.Author.Rules.{rules}
+use Rattle.readers_operations.proofs.parameters.Goals as goal
+
+pub list-requires : goal.list-requires
+list-requires c = (search rules, inr (inr (inl refl)))
+
+pub returns-then-is_one_of : goal.returns-then-is_one_of
+unfolding computing
+returns-then-is_one_of c =
+    let test = c.before.before.before.before.before in
+    picked (among directions) test.next_kind-next.ensures
+    (is_in directions test.next_kind-next.result test.is_one_of.ensures test.if-is_one_of.true)
+    c.list.ensures
+
+pub returns : goal.returns
+unfolding computing
+returns c =
+    picked (except (directions ∷ [])) c.next_kind-next.ensures
+    (is_out directions c.next_kind-next.result c.is_one_of.ensures c.if-is_one_of.false) left_out

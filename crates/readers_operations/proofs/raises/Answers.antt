@@ -1,0 +1,32 @@
+-- `raises` reads rule 93 in a frame of its own, or nothing: the names of exceptions at one level of depth less.
+-- The kind ahead tells which. Assumes nothing.
+use Rattle.readers_core.proofs.Choosing.{among, except}
+use Rattle.readers_core.proofs.Computing.{computing}
+use Rattle.kinds.specs.Lists.{only}
+use Rattle.grammar.specs.Names.{rule}
+use Rattle.readers_core.proofs.Frames.{frame}
+use Rattle.readers_core.proofs.Groups.{between}
+use Rattle.readers_core.proofs.Sequence.{◌▸◌}
+use Rattle.readers_core.proofs.Parts.{left_out, picked}
+use mathlib.Core.Logic.{inl}
+use mathlib.Core.Path.{refl}
+use mathlib.Core.List.{[], ◌∷◌}
+use borrow.Author.Rules.{rules}
+use Rattle.readers_operations.proofs.raises.Goals as goal
+
+pub list-names-requires : goal.list-names-requires
+list-names-requires c = (search rules, inl refl)
+
+pub returns-then-next-eq-RAISES : goal.returns-then-next-eq-RAISES
+unfolding computing
+returns-then-next-eq-RAISES c =
+    let inside = c.before.before.before.before.before.before.before.before in
+    let word = inside.before.before.before.before in
+    picked (among (only "raises")) word.next_kind-next.ensures word.if-next-eq-RAISES.true
+    (frame (rule "raises_expr") ((word.take-word.ensures.reads _ _).in_any _ _ ▸
+    (between inside.open-inside.ensures inside.inner.ensures inside.list-names.ensures
+    c.take-closed.ensures).in_any _ _ ▸ c.node.ensures.wraps refl _ _ _ tt))
+
+pub returns : goal.returns
+unfolding computing
+returns c = picked (except (only "raises" ∷ [])) c.next_kind-next.ensures (tt, c.if-next-eq-RAISES.false) left_out

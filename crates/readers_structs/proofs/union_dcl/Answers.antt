@@ -1,0 +1,30 @@
+-- `union_dcl` reads by its plan: "switch" tells a declaration.
+-- Its calls are put together as its plan is. Assumes nothing.
+use Rattle.kinds.specs.Lists.{only}
+use Rattle.readers_core.proofs.Choosing.{among, except}
+use Rattle.readers_core.proofs.Computing.{computing}
+use Rattle.readers_core.proofs.Frames.{chosen}
+use Rattle.readers_core.proofs.Sequence.{◌▸◌}
+use mathlib.Core.List.{[], ◌∷◌}
+use mathlib.Core.Path.{refl}
+use Rattle.readers_structs.proofs.union_dcl.Goals as goal
+
+pub returns-then-next-eq-SWITCH : goal.returns-then-next-eq-SWITCH
+unfolding computing
+returns-then-next-eq-SWITCH c =
+    let test = c.before.before.before.before.before in
+    record {
+      of_any = λ hs. ((test.take-word.ensures.reads _ _).in_any _ _) ▸
+          ((test.take-name.ensures.reads _ _).in_any _ _) ▸
+          chosen (among (only "switch")) test.next_kind-next.ensures test.if-next-eq-SWITCH.true (c.union_rest.ensures.of_any _);
+    }
+
+pub returns : goal.returns
+unfolding computing
+returns c =
+    let test = c.before.before.before.before.before in
+    record {
+      of_any = λ hs. ((test.take-word.ensures.reads _ _).in_any _ _) ▸
+          ((test.take-name.ensures.reads _ _).in_any _ _) ▸
+          chosen (except (only "switch" ∷ [])) test.next_kind-next.ensures (tt, test.if-next-eq-SWITCH.false) (c.node.ensures.wraps refl _ _ _ tt);
+    }

@@ -1,0 +1,26 @@
+-- `behind_name` reads by its plan: an opening bracket tells an array.
+-- What the plan comes to is what was called. Assumes nothing.
+use Rattle.readers_core.proofs.Computing.{computing}
+use Rattle.kinds.specs.Lists.{only}
+use Rattle.readers_core.proofs.Choosing.{among, except}
+use Rattle.readers_core.proofs.Frames.{chosen}
+use Rattle.readers_core.proofs.Sequence.{◌▸◌, unrecorded}
+use mathlib.Core.List.{[], ◌∷◌}
+use mathlib.Core.Path.{refl}
+use Rattle.readers_types.proofs.behind_name.Goals as goal
+
+pub returns-then-next-eq-OPEN_BRACKET : goal.returns-then-next-eq-OPEN_BRACKET
+unfolding computing
+returns-then-next-eq-OPEN_BRACKET c =
+    let sizes = c.before.before.before.before.before.before.before in let size = sizes.before.before.before.before in
+    let mark = size.before.before in
+    chosen (among (only "[")) mark.next_kind-next.ensures mark.if-next-eq-OPEN_BRACKET.true
+    ((size.fixed_array_size-size.ensures.in_any _ _) ▸ (sizes.further_sizes-sizes.ensures.in_any _ _)
+    ▸ (c.node.ensures.wraps refl _ _ _ tt) ▸ unrecorded tt)
+
+pub returns : goal.returns
+unfolding computing
+returns c =
+    let mark = c.before.before.before.before.before in
+    chosen (except (only "[" ∷ [])) mark.next_kind-next.ensures (tt, mark.if-next-eq-OPEN_BRACKET.false)
+    (c.node-2.ensures.wraps refl _ _ _ tt)

@@ -1,0 +1,27 @@
+-- `declarators` reads rule 49: a comma tells that there are several, and else it has no record.
+-- By the law of such lists. Assumes nothing.
+use Rattle.kinds.specs.Lists.{only}
+use Rattle.readers_core.proofs.Computing.{computing}
+use Rattle.readers_core.proofs.Choosing.{among, except}
+use Rattle.readers_core.proofs.Lists.{one_part, several_parts}
+use borrow.Author.Rules.{rules}
+use mathlib.Core.List.{[], ◌∷◌}
+use mathlib.Core.Logic.{inl}
+use mathlib.Core.Path.{refl}
+use Rattle.readers_types.proofs.declarators.Goals as goal
+
+pub returns-then-next-eq-COMMA : goal.returns-then-next-eq-COMMA
+unfolding computing
+returns-then-next-eq-COMMA c =
+    let more = c.before.before.before.before.before.before.before in let comma = more.before.before in
+    several_parts refl comma.declarator-first.ensures (among (only ","))
+    comma.next_kind-next.ensures comma.if-next-eq-COMMA.true tt more.further-more.ensures refl c.node.ensures tt
+
+pub returns : goal.returns
+unfolding computing
+returns c =
+    one_part refl c.declarator-first.ensures (except (only "," ∷ []))
+    c.next_kind-next.ensures (tt, c.if-next-eq-COMMA.false) (λ u. u) tt tt
+
+pub further-more-requires : goal.further-more-requires
+further-more-requires c = (search rules, inl refl)

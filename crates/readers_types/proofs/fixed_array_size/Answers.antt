@@ -1,0 +1,15 @@
+-- `fixed_array_size` reads rule 84 in a frame of its own.
+-- Its calls are put together as its plan is. Assumes nothing.
+use Rattle.readers_core.proofs.Computing.{computing}
+use Rattle.grammar.specs.Names.{rule}
+use Rattle.readers_core.proofs.Frames.{frame}
+use Rattle.readers_core.proofs.Sequence.{◌▸◌}
+use mathlib.Core.Path.{refl}
+use Rattle.readers_types.proofs.fixed_array_size.Goals as goal
+
+pub returns : goal.returns
+unfolding computing
+returns c =
+    let made = c.before.before.before in
+    frame (rule "fixed_array_size") ((made.enclosed-size.ensures.in_any _ _)
+    ▸ (made.node.ensures.wraps refl _ _ _ tt))

@@ -1,0 +1,29 @@
+-- `further` reads the rest of a list while a comma stands ahead.
+-- By the laws of such loops: each turn reads a comma and an item. Assumes nothing.
+use Rattle.kinds.specs.Lists.{only}
+use Rattle.readers_core.proofs.Computing.{computing}
+use Rattle.readers_core.proofs.Loops.{no_turn, turn_less, turn_again, turned}
+use Rattle.readers_core.proofs.Parts.{◌then◌}
+use Rattle.readers_types.proofs.further.Goals as goal
+
+pub loop-comma-smaller : goal.loop-comma-smaller
+unfolding computing
+loop-comma-smaller c =
+    let comma = c.before.before.before.before.before in
+    turn_less (only ",") comma.next_kind.ensures comma.loop-comma-test.true tt
+    (comma.take-comma.ensures.reads _ _ then c.item-items.ensures)
+
+pub loop-comma-preserved : goal.loop-comma-preserved
+unfolding computing
+loop-comma-preserved c =
+    let comma = c.before.before.before.before.before in
+    turn_again (only ",") comma.next_kind.ensures comma.loop-comma-test.true tt
+    (comma.take-comma.ensures.reads _ _ then c.item-items.ensures) c.item-items.auto.tree
+    comma.loop-comma.invariant
+
+pub returns : goal.returns
+unfolding computing
+returns c = turned (only ",") c.next_kind.ensures (tt, c.loop-comma-test.false) tt c.loop-comma.invariant
+
+pub loop-comma-init : goal.loop-comma-init
+loop-comma-init c = no_turn

@@ -1,0 +1,10 @@
+-- `further_sizes` reads sizes while an opening bracket stands ahead.
+use Rattle.readers_core.specs.Notation.{<◌>}
+use Rattle.readers_core.proofs.Repetition.{Turning, remaining}
+use Rattle.readers_types.proofs.further_sizes.Given as goal
+
+abbrev pub invariant-loop-tree : goal.invariant-loop-tree
+invariant-loop-tree l = Turning < "fixed_array_size" > l.tokens l.initial.tree l.at l.depth l.initial.sizes l.tree l.sizes
+
+abbrev pub decreases-loop-tree : goal.decreases-loop-tree
+decreases-loop-tree l = remaining l.tokens l.sizes

@@ -1,0 +1,18 @@
+-- `item` reads the rule that it is asked for.
+-- One of two rules, by its number. Assumes nothing.
+use Rattle.readers_core.proofs.Computing.{computing}
+use mathlib.Core.Logic.{⊎_elim}
+use mathlib.Core.Path.{◌≡◌, refl}
+use Rattle.grammar.specs.Names.{rule}
+use Rattle.readers_types.proofs.item.Goals as goal
+
+pub returns-in-50 : goal.returns-in-50
+returns-in-50 c = rw c.in-50.is c.declarator.ensures
+
+pub returns-in_default : goal.returns-in_default
+unfolding computing
+returns-in_default c =
+    let start = c.before.before.before.before.before.before.before.before in
+    let other : start.args.rule ≡ rule "enumerator" =
+    ⊎_elim (λ same. absurd (c.in_default.in_default-own.rest.1 same)) (λ same. same) start.requires.1 in
+    rw other ((c.one_token.ensures.reads refl refl).at_any _)

@@ -1,0 +1,36 @@
+-- `param_type_spec` reads rule 95, which passes another rule's node on.
+-- The kind ahead tells which. Assumes nothing.
+use Rattle.readers_core.proofs.Computing.{computing}
+use Rattle.grammar.specs.Names.{rule}
+use Rattle.readers_core.proofs.Frames.{passed_by, passed_on}
+use Rattle.readers_core.proofs.Choosing.{among, except}
+use Rattle.readers_names.proofs.Words.{names, passes_word}
+use Rattle.readers_types.specs.Plans.{string_rule, strings}
+use borrow.Author.Rules.{rules}
+use mathlib.Core.List.{[], ◌∷◌}
+use mathlib.Core.Path.{refl}
+use Rattle.readers_types.proofs.param_type_spec.Goals as goal
+
+pub returns-in-52 : goal.returns-in-52
+unfolding passes_word
+returns-in-52 c =
+    let arm = c.before.before.before.before.before in
+    passed_by (rule "param_type_spec") string_rule strings arm.next_kind-next.ensures arm.in-52.is tt
+    c.string_type.ensures
+
+pub returns-in-1 : goal.returns-in-1
+unfolding computing
+returns-in-1 c =
+    let arm = c.before.before.before.before.before in
+    passed_on (rule "param_type_spec") (among names) arm.next_kind-next.ensures arm.in-1.is refl tt
+    (c.scoped_name.ensures.at_any _)
+
+pub returns-in_default : goal.returns-in_default
+unfolding computing
+returns-in_default c =
+    let arm = c.before.before.before.before.before in
+    passed_on (rule "param_type_spec") (except (names ∷ strings ∷ [])) arm.next_kind-next.ensures arm.in_default.in_default-own.rest
+    refl tt (c.base_type_spec.ensures.at_any _)
+
+pub string_type-requires : goal.string_type-requires
+string_type-requires c = (search rules, c.in-52.is)

@@ -1,0 +1,36 @@
+-- `string_type` reads rules 81 and 82, whichever begins with the word, in a frame of their own.
+-- Its calls are put together as its plan is; a mark tells the bound. Assumes nothing.
+use Rattle.readers_core.proofs.Computing.{computing}
+use Rattle.kinds.specs.Lists.{only}
+use Rattle.readers_core.proofs.Choosing.{among, except}
+use Rattle.readers_core.proofs.Frames.{chosen, frame_by}
+use Rattle.readers_core.proofs.Sequence.{◌▸◌, skipped}
+use Rattle.readers_names.proofs.Words.{is_kind, plan_of, plans_of}
+use Rattle.readers_types.specs.Plans.{string_plan, string_rule, strings}
+use borrow.Author.Rules.{rules}
+use mathlib.Core.List.{[], ◌∷◌}
+use mathlib.Core.Path.{sym}
+use Rattle.readers_types.proofs.string_type.Goals as goal
+
+pub take-word-requires : goal.take-word-requires
+unfolding computing
+take-word-requires c = (search rules, is_kind strings _ c.requires.1 tt)
+
+pub returns-then-next-eq-OPEN_ANGLE : goal.returns-then-next-eq-OPEN_ANGLE
+unfolding plans_of
+returns-then-next-eq-OPEN_ANGLE c =
+    let mark = c.before.before.before.before.before.before.before.before.before in let word = mark.before.before in
+    frame_by _ (plan_of string_rule string_plan strings _ word.requires.1 tt)
+    (((word.take-word.ensures.reads _ _).in_any _ _)
+    ▸ chosen (among (only "<")) mark.next_kind-next.ensures mark.if-next-eq-OPEN_ANGLE.true
+    (c.enclosed-bound.ensures.in_any _ _)
+    ▸ (c.node.ensures.wraps (sym word.string_rule-rule.ensures) _ _ _ tt))
+
+pub returns : goal.returns
+unfolding plans_of
+returns c =
+    let mark = c.before.before.before.before.before in let word = mark.before.before in
+    frame_by _ (plan_of string_rule string_plan strings _ word.requires.1 tt)
+    (((word.take-word.ensures.reads _ _).in_any _ _)
+    ▸ chosen (except (only "<" ∷ [])) mark.next_kind-next.ensures (tt, mark.if-next-eq-OPEN_ANGLE.false) skipped
+    ▸ (c.node-2.ensures.wraps (sym word.string_rule-rule.ensures) _ _ _ tt))

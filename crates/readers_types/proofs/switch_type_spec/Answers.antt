@@ -1,0 +1,51 @@
+-- `switch_type_spec` reads rule 73, which passes another rule's node on.
+-- The kind ahead tells which. Assumes nothing.
+use Rattle.readers_core.proofs.Computing.{computing}
+use Rattle.kinds.specs.Lists.{kinds_of, only}
+use Rattle.grammar.specs.Names.{rule}
+use Rattle.readers_core.proofs.Frames.{passed_on}
+use Rattle.readers_core.proofs.Choosing.{among, except}
+use Rattle.readers_names.proofs.Words.{by_word, is_kind, passes_word}
+use Prim.Native.Nat.{ℕ}
+use borrow.Author.Rules.{rules}
+use mathlib.Core.List.{List, [], ◌∷◌}
+use mathlib.Core.Path.{refl}
+use Rattle.readers_types.proofs.switch_type_spec.Goals as goal
+
+abbrev integers : List ℕ
+integers = kinds_of ("long" ∷ "short" ∷ "unsigned" ∷ [])
+
+abbrev words : List ℕ
+words = kinds_of ("boolean" ∷ "char" ∷ [])
+
+pub returns-in-40 : goal.returns-in-40
+unfolding computing
+returns-in-40 c =
+    let arm = c.before.before.before.before.before in
+    passed_on (rule "switch_type_spec") (among integers) arm.next_kind-next.ensures arm.in-40.is refl tt
+    (c.integer_type.ensures.at_any _)
+
+pub one_token-requires : goal.one_token-requires
+unfolding computing
+one_token-requires c = (search rules, is_kind words _ c.in-25.is tt)
+
+pub returns-in-25 : goal.returns-in-25
+unfolding passes_word
+returns-in-25 c =
+    let read = c.before.before.before in let arm = read.before.before.before in
+    by_word (rule "switch_type_spec") words arm.next_kind-next.ensures arm.in-25.is
+    read.word_rule.ensures tt read.one_token.ensures
+
+pub returns-in-31 : goal.returns-in-31
+unfolding computing
+returns-in-31 c =
+    let arm = c.before.before.before.before.before in
+    passed_on (rule "switch_type_spec") (among (only "enum")) arm.next_kind-next.ensures arm.in-31.is refl tt
+    c.enum_type.ensures
+
+pub returns-in_default : goal.returns-in_default
+unfolding computing
+returns-in_default c =
+    let arm = c.before.before.before.before.before in
+    passed_on (rule "switch_type_spec") (except (only "enum" ∷ words ∷ integers ∷ [])) arm.next_kind-next.ensures
+    arm.in_default.in_default-own.rest refl tt (c.scoped_name.ensures.at_any _)

@@ -1,0 +1,11 @@
+-- `custom_value` reads by its plan: a value with a body.
+-- Its calls are put together as its plan is; rule 13 leaves no record. Assumes nothing.
+use Rattle.readers_core.proofs.Computing.{computing}
+use Rattle.readers_core.proofs.Sequence.{unrecorded}
+use Rattle.readers_core.proofs.Lines.{◌▸▸◌, append}
+use Rattle.readers_core.proofs.Parts.{named}
+use Rattle.readers_values.proofs.custom_value.Goals as goal
+
+pub returns : goal.returns
+unfolding computing append
+returns c = named c.take-word.ensures c.take-name.ensures (c.value_dcl.ensures ▸▸ unrecorded tt)

@@ -1,0 +1,11 @@
+-- `elements` reads the repetition of rule 21: each turn is one more, and it ends where no element can begin.
+use Rattle.readers_core.proofs.Repetition.{Turning}
+use Rattle.readers_core.specs.Notation.{<◌>}
+use Rattle.readers_core.proofs.Repetition.{remaining}
+use Rattle.readers_values.proofs.elements.Given as goal
+
+abbrev pub invariant-loop-tree : goal.invariant-loop-tree
+invariant-loop-tree l = Turning < "value_element" > l.tokens l.initial.tree l.at l.depth l.initial.read l.tree l.read
+
+abbrev pub decreases-loop-tree : goal.decreases-loop-tree
+decreases-loop-tree l = remaining l.tokens l.read
