@@ -1,4 +1,6 @@
 // What the program prints for a text: the report of the reader's answer, with the program's own tables and depth setting.
+#![tactic(auto)]
+
 ghost use Rattle.std.specs.Prelude.{◌≡◌, take};
 ghost use Rattle.io.specs.Counts.{IsPrefixLen};
 ghost use Rattle.grammar.specs.Idl.{idl};

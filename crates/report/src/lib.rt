@@ -1,6 +1,8 @@
 // What the program writes of a call: a line for the reply and, for an accepted text, a line for each record of its tree.
 //
 // Each function puts bytes behind the first `at` of a lent slice, and answers where they end.
+#![tactic(auto)]
+
 ghost use Rattle.std.specs.Prelude.{◌≡◌, [], ◌∷◌, ◌++◌, ◌+◌, ◌*◌, ◌≤◌, length, take, drop};
 ghost use Rattle.io.specs.Counts.{IsPrefixLen};
 ghost use Rattle.report.specs.Report.{number, line, lines, refusal, acceptance, report};

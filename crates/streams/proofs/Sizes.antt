@@ -1,7 +1,6 @@
 -- A count that is given of bytes moved lies within the slice.
 -- By the case of the definition. Assumes nothing.
-use Prim.Native.Nat.{ℕ, ◌≤◌}
-use mathlib.Core.Path.{◌≡◌}
+use Rattle.std.proofs.Common.{ℕ, ◌≤◌, ◌≡◌}
 use Rattle.streams.specs.declared.Transfer.{Transfer}
 use Rattle.streams.specs.declared.Transfer.TheVariants.{Bytes}
 use Rattle.streams.specs.Transfer.{Within}

@@ -3,14 +3,21 @@
 // A line is the table's length in two digits, a blank, the text, and after a tab why the answer is what it is. In the text %XY
 // stands for the byte of these hex digits. Each number of the table is 9 before the call. A line that starts with no digit is a
 // heading.
-ghost use Rattle.std.specs.Prelude.{◌+◌, ◌≤◌, ◌<◌, length};
+#![tactic(auto)]
+
+ghost use Rattle.std.specs.Prelude.{◌+◌, ◌≤◌, ◌<◌, length, IfOk};
 ghost use Rattle.tables.specs.Tables.{token_width};
 ghost use Rattle.vectors.specs.Lines.{hex, escape_size, most_numbers};
 
-use libc::{STDIN_FILENO, STDOUT_FILENO};
 use replies::Reply;
+use std::io;
+use std::io::Print;
+use streams::Transfer;
 use tables::{TOKEN_FIRST, TOKEN_LENGTH, TOKEN_WIDTH};
 use text::Class;
+
+// The most bytes of the input.
+const INPUT_SIZE: usize = 65536;
 
 // Where the text of a line starts: behind two digits and a blank.
 const TEXT: usize = 3;
@@ -32,44 +39,43 @@ const DECIMAL: usize = 10;
 const TABLE_SIZE: usize = (HEX - 1) * DECIMAL + HEX - 1;
 
 // A number, after a blank.
-fn print(number: u32) {
-    io::write_all(STDOUT_FILENO, b" ");
-    io::print_decimal(STDOUT_FILENO, number as u64);
+fn print(rt: &impl Print, number: u32) -> io::Result<()> {
+    print!(rt; " {number}")
 }
 
-fn print_reply(reply: Reply) {
-    io::write_all(STDOUT_FILENO, b" =>");
-    print(reply.number);
-    print(reply.place);
-    print(reply.tokens);
-    print(reply.records);
+fn print_reply(rt: &impl Print, reply: &Reply) -> io::Result<()> {
+    print!(rt; " =>")?;
+    print(rt, reply.number)?;
+    print(rt, reply.place)?;
+    print(rt, reply.tokens)?;
+    print(rt, reply.records)
 }
 
 // Prints the record at a place of the table.
-fn print_record(table: &[u32], at: usize)
+fn print_record(rt: &impl Print, table: &[u32], at: usize) -> io::Result<()>
     requires { at + token_width ≤ length table.now }
 {
-    io::write_all(STDOUT_FILENO, b" |");
-    print(table[at]);
-    print(table[at + TOKEN_FIRST]);
-    print(table[at + TOKEN_LENGTH]);
+    print!(rt; " |")?;
+    print(rt, table[at])?;
+    print(rt, table[at + TOKEN_FIRST])?;
+    print(rt, table[at + TOKEN_LENGTH])
 }
 
 // Prints so many records of the table, and answers where the rest of it starts.
-fn print_records(table: &[u32], count: u32) -> usize
-    ensures { result ≤ length table.now }
+fn print_records(rt: &impl Print, table: &[u32], count: u32) -> io::Result<usize>
+    ensures { IfOk result (λ at. at ≤ length table.now) }
 {
     let mut at = 0;
     let mut n = 0;
     while n < count {
         if table.len() - at < TOKEN_WIDTH {
-            return at;
+            return Ok(at);
         }
-        print_record(table, at);
+        print_record(rt, table, at)?;
         at += TOKEN_WIDTH;
         n += 1;
     }
-    at
+    Ok(at)
 }
 
 // How many numbers from a place on are the same.
@@ -88,18 +94,17 @@ fn same_numbers(table: &[u32], from: usize) -> usize
 }
 
 // Prints the numbers of the table from a place on, those in a row that are the same once.
-fn print_rest(table: &[u32], from: usize)
+fn print_rest(rt: &impl Print, table: &[u32], from: usize) -> io::Result<()>
     requires { from ≤ length table.now }
 {
     let mut at = from;
     while at < table.len() {
         let n = same_numbers(table, at);
-        io::write_all(STDOUT_FILENO, b" | ");
-        io::print_decimal(STDOUT_FILENO, n as u64);
-        io::write_all(STDOUT_FILENO, b" of");
-        print(table[at]);
+        print!(rt; " | {n} of")?;
+        print(rt, table[at])?;
         at += n;
     }
+    Ok(())
 }
 
 // The value of a hex digit.
@@ -153,35 +158,35 @@ fn text_of(line: &[u8], text: &mut [u8]) -> usize
 }
 
 // Reads a text into a table, and prints the reply and the table.
-fn run(text: &[u8], table: &mut [u32]) {
+fn run(rt: &impl Print, text: &[u8], table: &mut [u32]) -> io::Result<()> {
     let reply = tokens::read_tokens(text, table);
-    print_reply(reply);
+    print_reply(rt, &reply)?;
     let mut count = 0;
     if reply.number == Reply::ACCEPTED {
         count = reply.tokens;
     }
-    let from = print_records(table, count);
-    print_rest(table, from);
+    let from = print_records(rt, table, count)?;
+    print_rest(rt, table, from)
 }
 
 // Runs the text of a line on a table of a length.
-fn run_text(line: &[u8], room: usize)
+fn run_text(rt: &impl Print, line: &[u8], room: usize) -> io::Result<()>
     requires { room ≤ most_numbers }
 {
     let mut text = [0u8; TEXT_SIZE];
     let size = text_of(line, &mut text);
     let mut table = [UNTOUCHED; TABLE_SIZE];
-    run(&text[..size], &mut table[..room]);
+    run(rt, &text[..size], &mut table[..room])
 }
 
-fn run_line(line: &[u8]) {
-    io::write_all(STDOUT_FILENO, line);
+fn run_line(rt: &impl Print, line: &[u8]) -> io::Result<()> {
+    rt.write_all(line)?;
     if TEXT <= line.len() {
         if text::is_digit(line[0]) {
-            run_text(&line[TEXT..], value(line[0]) * DECIMAL + value(line[1]));
+            run_text(rt, &line[TEXT..], value(line[0]) * DECIMAL + value(line[1]))?;
         }
     }
-    io::write_all(STDOUT_FILENO, b"\n");
+    println!(rt)
 }
 
 // Where the line that starts at a place ends.
@@ -192,17 +197,20 @@ fn line_end(input: &[u8], at: usize) -> usize
     at + text::run_of(Class::InLine, &input[at..])
 }
 
-fn run_lines(input: &[u8]) {
+fn run_lines(rt: &impl Print, input: &[u8]) -> io::Result<()> {
     let mut at = 0;
     while at < input.len() {
         let end = line_end(input, at);
-        run_line(&input[at..end]);
+        run_line(rt, &input[at..end])?;
         at = end + 1;
     }
+    Ok(())
 }
 
-fn main() {
-    let mut input = io::large_buffer();
-    let size = io::read_full(STDIN_FILENO, &mut input);
-    run_lines(&input[..size]);
+fn main(rt: HostRuntime) -> io::Result<()> {
+    let mut input = [0u8; INPUT_SIZE];
+    match streams::read_all(&mut rt.stdin(), &mut input) {
+        Transfer::Bytes(size) => run_lines(&rt, &input[..size]),
+        Transfer::Interrupted(error) | Transfer::Failed(error) => Err(error),
+    }
 }

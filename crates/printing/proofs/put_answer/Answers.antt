@@ -1,0 +1,23 @@
+-- `printing::put_answer` meets its contract: the report of reply 1 for a longer text, and of the reader's answer for any other.
+-- The tables are lent as the definition has them. Assumes nothing.
+use mathlib.Core.Path.{refl, ◌∙◌}
+use borrow.Author.Rules.{rules}
+use Rattle.printing.specs.Printed.{lent}
+use Rattle.printing.proofs.Answers.{prints_longer, prints_answer}
+use Rattle.printing.proofs.put_answer.Goals as goal
+
+pub returns-then-text-gt-LONGEST : goal.returns-then-text-gt-LONGEST
+returns-then-text-gt-LONGEST c = record {
+  written = λ sense means.
+      c.put_report.ensures.written ∙ prints_longer c.args.text.now _ sense c.if-text-gt-LONGEST.true c.outside_limits.ensures;
+  counts = search rules;
+}
+
+pub returns : goal.returns
+unfolding lent
+returns c = record {
+  written = λ sense means.
+      c.put_report-2.ensures.written
+      ∙ prints_answer c.read-reply.ensures c.if-text-gt-LONGEST.false (search rules) refl refl sense means;
+  counts = search rules;
+}
