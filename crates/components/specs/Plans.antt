@@ -4,7 +4,7 @@ use Prim.Native.String.{String}
 use Rattle.std.specs.Prelude.{List, [], ◌∷◌, ◌++◌}
 use Rattle.kinds.specs.Kinds.{component_kind_of}
 use Rattle.components.specs.Components.{published, components}
-use Rattle.grammar.specs.Notation.{◌+, names}
+use Rattle.grammar.specs.Notation.{names}
 use Rattle.prediction.specs.plans.Prediction.{Prediction}
 use Rattle.prediction.specs.plans.Planning.{predict}
 use Rattle.prediction.specs.plans.PlanNotation.{`◌, <◌>, ◌▸◌, ◌∣◌, ⟦◌⟧, ◌*, Drawn, make, Draft, draft, sketch_each}

@@ -45,7 +45,7 @@ fn other_definition(
     depth: u32,
 ) -> Reading
     requires addressable { Addressable tokens.now }
-    requires fact { ahead tokens.now at ≡ kind_of "module" → ⊥ }
+    requires no_module { ahead tokens.now at ≡ kind_of "module" → ⊥ }
     ensures { Within one tokens.now depth start defined (at, tree.old) (result, tree.new) }
 {
     let next = next_kind(tokens, at);

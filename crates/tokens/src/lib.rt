@@ -1,4 +1,6 @@
 // The token part: the tokens of a text as records of a lent table, or the text's first fault.
+#![tactic(auto)]
+
 ghost use Rattle.std.specs.Prelude.{◌≡◌, ◌+◌, ◌≤◌, ◌<◌, length, drop};
 ghost use Rattle.tables.specs.Tables.{number_end};
 ghost use Rattle.text.specs.Bytes.{at, run, space};
