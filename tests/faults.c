@@ -1,4 +1,4 @@
-/* Stands before the C library's read and write, where the loader is told to load it first. READS has a letter for each read of standard input in
+/* Stands before the C library's read and write, where it is loaded first. READS has a letter for each read of standard input in
    turn, WRITES one for each write to standard output: i is interrupted by a signal, e fails, and a digit moves at most so many bytes. The calls
    behind the last letter do what they are asked. */
 #include <errno.h>

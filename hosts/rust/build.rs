@@ -5,7 +5,7 @@ use std::path::PathBuf;
 
 fn main() {
     println!("cargo:rerun-if-env-changed=IDL_LIBRARY");
-    let built = PathBuf::from(env!("CARGO_MANIFEST_DIR")).join("../../target/staticlib/libidl.a");
+    let built = PathBuf::from(env!("CARGO_MANIFEST_DIR")).join("../../crates/idl/out/libidl.a");
     let library = env::var_os("IDL_LIBRARY").map_or(built, PathBuf::from);
     let library = library.canonicalize().unwrap_or_else(|error| panic!("{}: {error}", library.display()));
     let folder = library.parent().expect("a file is in a folder");

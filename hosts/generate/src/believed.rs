@@ -9,7 +9,7 @@ fn after(words: &str) -> &'static str {
 
 /// The keywords with their kinds, in the order of the definitions.
 pub fn keywords() -> Vec<(u32, &'static str)> {
-    let first = after("\nfirst-keyword = ").lines().next().and_then(|line| line.parse().ok());
+    let first = after("\nfirst_keyword = ").lines().next().and_then(|line| line.parse().ok());
     let (list, _) = after("\nkeywords =\n").split_once("[]").expect("the list ends");
     let spellings = list.split('"').skip(1).step_by(2);
     (first.expect("a kind")..).zip(spellings).collect()
