@@ -1,6 +1,6 @@
 -- The shape that a plan leaves: what a frame has read is nothing, one node, or more, as its plan tells.
 -- By induction on the run; every plan of a rule leaves one node, as the test of its edition says. Assumes nothing.
-use Rattle.std.proofs.Common.{◌≡◌, ℕ, Bool, true, false, cond, not, T, eqb, ◌⊎◌, List, [], ◌∷◌, ◌++◌, sym, refl, ap, ◌∙◌, subst, ⊎_elim, eqb→eq}
+use Rattle.std.proofs.Common.{◌≡◌, ℕ, Bool, true, false, cond, not, T, eqb, List, [], ◌∷◌, ◌++◌, sym, refl, ap, ◌∙◌, subst, ⊎_elim, eqb→eq}
 use Rattle.grammar.specs.Forest.{Forest, end, leaf, node, join}
 use Rattle.grammar.proofs.Forest.{join_end}
 use Rattle.grammar.specs.Record.{shape, recorded}

@@ -4,7 +4,7 @@ use Rattle.std.specs.Prelude.{ℕ, cond, List, [], ◌∷◌, eqb, ◌⊎◌, �
 use Rattle.kinds.specs.Kinds.{kind_of}
 use Rattle.kinds.specs.Lists.{kinds_of}
 use Rattle.grammar.specs.Names.{rule}
-use Rattle.prediction.specs.plans.Plan.{Plan, token, call, wrap}
+use Rattle.prediction.specs.plans.Plan.{Plan, token, wrap}
 use Rattle.readers_core.specs.Notation.{`◌, <◌>, make, ◌▸◌, ◌∣◌, ⟦◌⟧, ◌*, ◌⟨◌⟩◌, list_of}
 
 -- the words of string types, in order of their kinds

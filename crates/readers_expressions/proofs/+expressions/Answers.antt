@@ -1,30 +1,24 @@
 -- The readers of expressions, which call each other, meet their contracts: each reads its rule as its plan is.
 -- The remaining depth falls at "(", and at one depth the level rises with each operation. Assumes nothing.
 use Rattle.readers_core.proofs.Computing.{computing}
-use Prim.Native.String.{String}
-use Rattle.grammar.specs.Notation.{place}
 use Rattle.kinds.specs.Kinds.{identifier}
 use Rattle.kinds.specs.Lists.{only}
 use Rattle.grammar.specs.Names.{rule}
-use Rattle.prediction.specs.plans.Plan.{Plan, call}
+use Rattle.prediction.specs.plans.Plan.{Plan}
 use Rattle.readers_core.proofs.Choosing.{among, except}
-use Rattle.readers_core.proofs.Cycle.{at, below, ranked, ranks, reader}
 use Rattle.readers_core.proofs.Frames.{frame_on, passed_on}
 use Rattle.readers_core.proofs.Groups.{enclosed, room, shut}
-use Rattle.readers_core.proofs.Repetition.{remaining}
 use Rattle.readers_core.proofs.Sequence.{◌▸◌}
 use Rattle.readers_core.specs.Course.{one}
 use Rattle.readers_core.specs.Reading.{Reads, State}
-use Rattle.readers_expressions.proofs.Climbing.{Ready, climbed, less, operated, settled}
+use Rattle.readers_expressions.proofs.Climbing.{climbed, less, operated, settled}
 use Rattle.readers_expressions.proofs.Operations.{below_operand, bounded, leveled, operator_kind}
 use Rattle.readers_core.proofs.Starts.{is_in, is_out}
 use Rattle.readers_expressions.specs.Levels.{level_of as level_of', operand, signs}
-use borrow.Author.Rules.{rules}
-use lib.ListN.{length}
 use mathlib.Core.List.{List, [], ◌∷◌}
 use mathlib.Core.Path.{◌∙◌, ◌≡◌, ap, refl, subst, sym}
 use native.Mathlib.Omega.{arith}
-use Prim.Native.Nat.{◌*◌, ◌+◌, ◌-◌, ℕ}
+use Prim.Native.Nat.{ℕ}
 use Rattle.readers_expressions.proofs.+expressions.Goals as goal
 
 -- an operand that has no sign is read from where the sign would stand

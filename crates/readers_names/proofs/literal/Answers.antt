@@ -12,7 +12,7 @@ use Rattle.readers_core.specs.Notation.{make}
 use Rattle.readers_names.specs.Plans.{string_literal}
 use Rattle.readers_names.proofs.Words.{chosen_by, comes_as, read_word}
 use mathlib.Core.List.{[], ◌∷◌}
-use mathlib.Core.Logic.{inl, inr, ⊎_elim}
+use mathlib.Core.Logic.{inl, inr}
 use mathlib.Core.Path.{refl}
 use native.Mathlib.Omega.{arith}
 use Rattle.readers_names.proofs.literal.Goals as goal

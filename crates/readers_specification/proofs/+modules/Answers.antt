@@ -3,20 +3,15 @@
 use Rattle.readers_core.proofs.Computing.{computing}
 use Rattle.kinds.specs.Lists.{only}
 use Rattle.grammar.specs.Names.{rule}
-use Rattle.readers_core.specs.Notation.{<◌>}
 use Rattle.readers_core.proofs.Choosing.{among}
 use Rattle.readers_core.proofs.Frames.{frame}
 use Rattle.readers_core.proofs.Groups.{enclosed, room, shut_out}
 use Rattle.readers_core.proofs.Starts.{is_in, is_out}
-use Rattle.readers_core.proofs.Repetition.{Beginning, to_read}
 use Rattle.readers_core.proofs.Sequence.{◌▸◌, stays}
 use Rattle.readers_core.proofs.Views.{stopped_if}
 use Rattle.readers_core.proofs.Loops.{no_part, part_less, part_again, last_part}
 use Rattle.readers_core.proofs.Parts.{here, picked_here}
 use Rattle.readers_specification.specs.Plans.{definition_starts}
-use Prim.Native.Nat.{ℕ}
-use mathlib.Core.List.{List, [], ◌∷◌}
-use borrow.Author.Rules.{rules}
 use mathlib.Core.Path.{◌∙◌, refl}
 use native.Mathlib.Omega.{arith}
 use Rattle.readers_specification.proofs.+modules.Goals as goal

@@ -1,20 +1,16 @@
 -- Types hold members that hold types: type, struct, member and union readers call each other, each by its plan.
 -- Remaining depth falls at each opening mark, and else the rank of the reader. Assumes nothing.
-use Prim.Native.Nat.{ℕ}
-use mathlib.Core.List.{List, [], ◌∷◌}
+use mathlib.Core.List.{[], ◌∷◌}
 use mathlib.Core.Path.{refl}
 use native.Mathlib.Omega.{arith}
-use borrow.Author.Rules.{rules}
 use Rattle.kinds.specs.Lists.{kinds_of, only}
 use Rattle.grammar.specs.Names.{rule}
-use Rattle.readers_core.specs.Notation.{<◌>}
 use Rattle.readers_core.proofs.Computing.{computing}
 use Rattle.readers_core.proofs.Choosing.{among, except}
 use Rattle.readers_core.proofs.Frames.{frame, passed_on}
 use Rattle.readers_core.proofs.Groups.{enclosed, room, shut}
 use Rattle.readers_core.proofs.Lists.{one_part, several_parts}
 use Rattle.readers_core.proofs.Loops.{no_turn, turn_less, turn_again, turned}
-use Rattle.readers_core.proofs.Repetition.{Turning, to_read}
 use Rattle.readers_core.proofs.Sequence.{◌▸◌}
 use Rattle.readers_core.proofs.Starts.{is_in, is_out}
 use Rattle.readers_structs.specs.Plans.{case_starts, type_starts}

@@ -1,6 +1,5 @@
 -- `tables::clear` meets its contract. The loop's invariant: the first i numbers are zero, and the others are as they came.
 -- At the end i is the length, and nothing is left of the others. Assumes nothing.
-use Prim.Native.Nat.{◌-◌}
 use native.Mathlib.Omega.{arith}
 use Rattle.tables.proofs.Filled.{filled_none, filled_more, filled_all}
 use Rattle.tables.proofs.clear.Goals as goal
