@@ -9,8 +9,13 @@ use Rattle.readers_interfaces.proofs.bases.Goals as goal
 
 pub returns-in-67 : goal.returns-in-67
 unfolding computing
-returns-in-67 c = record { at_any = λ d. picked (among (only ":")) c.next_kind-next.ensures c.in-67.is (c.interface_inheritance_spec.ensures.at_any d) }
+returns-in-67 c =
+    record {
+      at_any = λ d. picked (among (only ":")) c.next_kind-next.ensures c.in-67.is
+          (c.interface_inheritance_spec.ensures.at_any d);
+    }
 
 pub returns-in_default : goal.returns-in_default
 unfolding computing
-returns-in_default c = record { at_any = λ d. picked (except (only ":" ∷ [])) c.next_kind-next.ensures c.in_default.in_default-own.rest left_out }
+returns-in_default c =
+    record { at_any = λ d. picked (except (only ":" ∷ [])) c.next_kind-next.ensures c.in_default.in_default-own.rest left_out }

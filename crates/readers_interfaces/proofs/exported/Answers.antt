@@ -11,20 +11,35 @@ use Rattle.readers_interfaces.proofs.exported.Goals as goal
 
 pub returns-then-starts_type_dcl : goal.returns-then-starts_type_dcl
 unfolding computing
-returns-then-starts_type_dcl c = picked (among type_dcl_starts) c.next_kind-next.ensures (is_in type_dcl_starts _ c.starts_type_dcl.ensures c.if-starts_type_dcl.true) (c.type_dcl-declaration.ensures then c.take.ensures.reads _ _)
+returns-then-starts_type_dcl c =
+    picked (among type_dcl_starts) c.next_kind-next.ensures
+    (is_in type_dcl_starts _ c.starts_type_dcl.ensures c.if-starts_type_dcl.true)
+    (c.type_dcl-declaration.ensures then c.take.ensures.reads _ _)
 
 pub returns-in-26 : goal.returns-in-26
 unfolding computing
-returns-in-26 c = picked (among (only "const")) c.next_kind-next.ensures c.in-26.is (c.const_dcl-declaration.ensures then c.take-in-26.ensures.reads _ _)
+returns-in-26 c =
+    picked (among (only "const")) c.next_kind-next.ensures c.in-26.is
+    (c.const_dcl-declaration.ensures then c.take-in-26.ensures.reads _ _)
 
 pub returns-in-32 : goal.returns-in-32
 unfolding computing
-returns-in-32 c = picked (among (only "exception")) c.next_kind-next.ensures c.in-32.is (c.except_dcl-declaration.ensures then c.take-in-32.ensures.reads _ _)
+returns-in-32 c =
+    picked (among (only "exception")) c.next_kind-next.ensures c.in-32.is
+    (c.except_dcl-declaration.ensures then c.take-in-32.ensures.reads _ _)
 
 pub returns-in-49 : goal.returns-in-49
 unfolding computing
-returns-in-49 c = picked (among (kinds_of ("attribute" ∷ "readonly" ∷ []))) c.next_kind-next.ensures c.in-49.is (c.attr_dcl-declaration.ensures then c.take-in-49.ensures.reads _ _)
+returns-in-49 c =
+    picked (among (kinds_of ("attribute" ∷ "readonly" ∷ []))) c.next_kind-next.ensures c.in-49.is
+    (c.attr_dcl-declaration.ensures then c.take-in-49.ensures.reads _ _)
 
 pub returns-in_default : goal.returns-in_default
 unfolding computing
-returns-in_default c = picked (except (type_dcl_starts ∷ kinds_of ("attribute" ∷ "readonly" ∷ []) ∷ only "exception" ∷ only "const" ∷ [])) c.next_kind-next.ensures (c.in_default.in_default-own.rest, (is_out type_dcl_starts _ c.starts_type_dcl.ensures c.if-starts_type_dcl.false).1) (c.op_dcl-declaration.ensures then c.take-in_default.ensures.reads _ _)
+returns-in_default c =
+    picked (except (type_dcl_starts ∷ kinds_of ("attribute" ∷ "readonly" ∷ []) ∷ only "exception" ∷ only "const" ∷ []))
+    c.next_kind-next.ensures (
+      c.in_default.in_default-own.rest,
+      (is_out type_dcl_starts _ c.starts_type_dcl.ensures c.if-starts_type_dcl.false).1,
+    )
+    (c.op_dcl-declaration.ensures then c.take-in_default.ensures.reads _ _)

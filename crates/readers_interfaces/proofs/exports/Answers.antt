@@ -12,12 +12,18 @@ loop-tree-init c = no_turn
 
 pub loop-tree-smaller : goal.loop-tree-smaller
 unfolding computing
-loop-tree-smaller c = turn_less export_starts c.next_kind.ensures (is_in export_starts _ c.starts_export.ensures c.loop-tree-test.true) tt c.export-read.ensures
+loop-tree-smaller c =
+    turn_less export_starts c.next_kind.ensures (is_in export_starts _ c.starts_export.ensures c.loop-tree-test.true) tt
+    c.export-read.ensures
 
 pub loop-tree-preserved : goal.loop-tree-preserved
 unfolding computing
-loop-tree-preserved c = turn_again export_starts c.next_kind.ensures (is_in export_starts _ c.starts_export.ensures c.loop-tree-test.true) tt c.export-read.ensures c.export-read.auto.tree c.loop-tree.invariant
+loop-tree-preserved c =
+    turn_again export_starts c.next_kind.ensures (is_in export_starts _ c.starts_export.ensures c.loop-tree-test.true) tt
+    c.export-read.ensures c.export-read.auto.tree c.loop-tree.invariant
 
 pub returns : goal.returns
 unfolding computing
-returns c = turned export_starts c.next_kind.ensures (is_out export_starts _ c.starts_export.ensures c.loop-tree-test.false) tt c.loop-tree.invariant
+returns c =
+    turned export_starts c.next_kind.ensures (is_out export_starts _ c.starts_export.ensures c.loop-tree-test.false) tt
+    c.loop-tree.invariant

@@ -13,8 +13,16 @@ use Rattle.readers_interfaces.proofs.interface.Goals as goal
 
 pub returns-in-67 : goal.returns-in-67
 unfolding computing
-returns-in-67 c = let body = c.before.before.before.before.before.before.before.before in let header = body.before.before.before.before.before.before in let arm = header.before.before.before.before.before.before in named arm.take-word.ensures arm.take-name.ensures (chosen (among (kinds_of ("{" ∷ ":" ∷ []))) arm.next_kind-next.ensures arm.in-67.is (((header.bases-bases.ensures.at_any _).in_any _ _ ▸ header.node-header.ensures.wraps refl _ _ _ tt ▸ (between body.open-inside.ensures body.inner.ensures body.interface_body-body.ensures c.take-whole.ensures).in_any _ _ ▸ c.node.ensures.wraps refl _ _ _ tt) ▸ unrecorded tt))
+returns-in-67 c =
+    named c.take-word.ensures c.take-name.ensures
+    (chosen (among (kinds_of ("{" ∷ ":" ∷ []))) c.next_kind-next.ensures c.in-67.is
+    (((c.bases-bases.ensures.at_any _).in_any _ _ ▸ c.node-header.ensures.wraps refl _ _ _ tt ▸
+    (between c.open-inside.ensures c.inner.ensures c.interface_body-body.ensures c.take-whole.ensures).in_any _ _ ▸
+    c.node.ensures.wraps refl _ _ _ tt) ▸ unrecorded tt))
 
 pub returns-in_default : goal.returns-in_default
 unfolding computing
-returns-in_default c = named c.take-word.ensures c.take-name.ensures (chosen (except (kinds_of ("{" ∷ ":" ∷ []) ∷ [])) c.next_kind-next.ensures c.in_default.in_default-own.rest (c.node-in_default.ensures.wraps refl _ _ _ tt ▸ unrecorded tt))
+returns-in_default c =
+    named c.take-word.ensures c.take-name.ensures
+    (chosen (except (kinds_of ("{" ∷ ":" ∷ []) ∷ [])) c.next_kind-next.ensures c.in_default.in_default-own.rest
+    (c.node-in_default.ensures.wraps refl _ _ _ tt ▸ unrecorded tt))

@@ -11,4 +11,9 @@ use Rattle.readers_interfaces.proofs.interface_inheritance_spec.Goals as goal
 
 pub returns : goal.returns
 unfolding computing append
-returns c = record { at_any = λ d. frame (rule "interface_inheritance_spec") ((c.take-colon.ensures.reads _ _).in_any _ _ ▸ (((c.scoped_names-names.ensures.by_rule _ interface_names).at_any d).in_any _ _ ▸▸ c.node.ensures.wraps refl _ _ _ tt)) }
+returns c =
+    record {
+      at_any = λ d. frame (rule "interface_inheritance_spec")
+          ((c.take-colon.ensures.reads _ _).in_any _ _ ▸
+          (((c.scoped_names-names.ensures.by_rule _ interface_names).at_any d).in_any _ _ ▸▸ c.node.ensures.wraps refl _ _ _ tt));
+    }

@@ -21,15 +21,13 @@ loop-comma-smaller c =
 
 pub loop-comma-preserved : goal.loop-comma-preserved
 unfolding computing
-loop-comma-preserved c =
-    let turn = c.before.before.before.before.before in
-    let test = turn.before.before in (
-      c.scoped_name-names-in-loop-comma.auto.tree ∙ test.loop-comma.invariant.0,
-      λ n d start h. far_more (among (only ",")) test.next_kind.ensures turn.loop-comma-test.true tt
-          ((turn.take-comma.ensures.reads d _ then by_name h
-          (c.scoped_name-names-in-loop-comma.ensures.at_any d)).in_any start)
-          (test.loop-comma.invariant.1 n d start h),
-    )
+loop-comma-preserved c = (
+  c.scoped_name-names-in-loop-comma.auto.tree ∙ c.loop-comma.invariant.0,
+  λ n d start h. far_more (among (only ",")) c.next_kind.ensures c.loop-comma-test.true tt
+      ((c.take-comma.ensures.reads d _ then by_name h
+      (c.scoped_name-names-in-loop-comma.ensures.at_any d)).in_any start)
+      (c.loop-comma.invariant.1 n d start h),
+)
 
 pub returns : goal.returns
 unfolding computing

@@ -29,7 +29,8 @@ types = kinds_of ("enum" ∷ "native" ∷ "struct" ∷ "typedef" ∷ [])
 
 pub returns-then-kind-gt-LAST_KEYWORD : goal.returns-then-kind-gt-LAST_KEYWORD
 unfolding AnyOf NoneOf below flat subset elem
-returns-then-kind-gt-LAST_KEYWORD c = only_last (kind_of "wstring") low_export_starts (kind_of "::") _ tt c.if-kind-gt-LAST_KEYWORD.true
+returns-then-kind-gt-LAST_KEYWORD c =
+    only_last (kind_of "wstring") low_export_starts (kind_of "::") _ tt c.if-kind-gt-LAST_KEYWORD.true
 
 pub returns-in-57 : goal.returns-in-57
 unfolding AnyOf NoneOf below flat subset elem
@@ -53,4 +54,6 @@ returns-in-23 c = starts rest export_starts _ tt c.in-23.is
 
 pub returns-in_default : goal.returns-in_default
 unfolding AnyOf NoneOf below flat subset elem
-returns-in_default c = starts_not (only "::" ∷ rest ∷ numbers ∷ results ∷ others ∷ types ∷ []) export_starts _ tt (c.in_default.in_default-own.rest, λ e. omega (arith, c.if-kind-gt-LAST_KEYWORD.false, e))
+returns-in_default c =
+    starts_not (only "::" ∷ rest ∷ numbers ∷ results ∷ others ∷ types ∷ []) export_starts _ tt
+    (c.in_default.in_default-own.rest, λ e. omega (arith, c.if-kind-gt-LAST_KEYWORD.false, e))

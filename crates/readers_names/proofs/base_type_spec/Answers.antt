@@ -19,8 +19,8 @@ words = kinds_of ("Object" ∷ "any" ∷ "boolean" ∷ "char" ∷ "octet" ∷ "w
 pub returns-in-40 : goal.returns-in-40
 unfolding computing
 returns-in-40 c =
-    let arm = c.before.before.before.before.before in record {
-      at_any = λ d. frame_on (rule "base_type_spec") (among numbers) arm.next_kind-next.ensures arm.in-40.is
+    record {
+      at_any = λ d. frame_on (rule "base_type_spec") (among numbers) c.next_kind-next.ensures c.in-40.is
           ((c.number_type.ensures.at_any _) ▸ unrecorded tt);
     }
 
@@ -31,15 +31,15 @@ one_token-requires c = (search rules, is_kind words _ c.in-25.is tt)
 pub returns-in-25 : goal.returns-in-25
 unfolding passes_word
 returns-in-25 c =
-    let read = c.before.before.before in let arm = read.before.before.before in record {
-      at_any = λ d. by_word (rule "base_type_spec") words arm.next_kind-next.ensures arm.in-25.is
-          read.word_rule.ensures tt read.one_token.ensures;
+    record {
+      at_any = λ d. by_word (rule "base_type_spec") words c.next_kind-next.ensures c.in-25.is
+          c.word_rule.ensures tt c.one_token.ensures;
     }
 
 pub returns-in_default : goal.returns-in_default
 unfolding computing
 returns-in_default c =
-    let arm = c.before.before.before.before.before in record {
-      at_any = λ d. passed_on (rule "base_type_spec") (except (words ∷ numbers ∷ [])) arm.next_kind-next.ensures
-          arm.in_default.in_default-own.rest refl tt ((c.one_token-in_default.ensures.reads refl refl).at_any d);
+    record {
+      at_any = λ d. passed_on (rule "base_type_spec") (except (words ∷ numbers ∷ [])) c.next_kind-next.ensures
+          c.in_default.in_default-own.rest refl tt ((c.one_token-in_default.ensures.reads refl refl).at_any d);
     }

@@ -12,15 +12,15 @@ use Rattle.readers_names.proofs.behind_long.Goals as goal
 pub returns-in-40 : goal.returns-in-40
 unfolding computing
 returns-in-40 c =
-    let word = c.before.before.before.before.before in record {
-      at_any = λ d. chosen (among (only "long")) word.next_kind-next.ensures word.in-40.is
-          (read_word refl tt word.take-word.ensures c.node.ensures);
+    record {
+      at_any = λ d. chosen (among (only "long")) c.next_kind-next.ensures c.in-40.is
+          (read_word refl tt c.take-word.ensures c.node.ensures);
     }
 
 pub returns-in_default : goal.returns-in_default
 unfolding computing
 returns-in_default c =
-    let arm = c.before.before.before.before.before in record {
-      at_any = λ d. chosen (except (only "long" ∷ [])) arm.next_kind-next.ensures arm.in_default.in_default-own.rest
+    record {
+      at_any = λ d. chosen (except (only "long" ∷ [])) c.next_kind-next.ensures c.in_default.in_default-own.rest
           (c.node-in_default.ensures.wraps refl _ _ _ tt);
     }

@@ -13,10 +13,10 @@ use Rattle.readers_names.proofs.behind_unsigned.Goals as goal
 pub returns-then-next-eq-SHORT : goal.returns-then-next-eq-SHORT
 unfolding computing
 returns-then-next-eq-SHORT c =
-    let word = c.before.before.before.before.before in record {
+    record {
       at_any = λ d. record {
-        of_any = λ hs. chosen (among (only "short")) word.next_kind-next.ensures word.if-next-eq-SHORT.true
-            (read_word refl tt word.take-short.ensures c.node.ensures);
+        of_any = λ hs. chosen (among (only "short")) c.next_kind-next.ensures c.if-next-eq-SHORT.true
+            (read_word refl tt c.take-short.ensures c.node.ensures);
       };
     }
 

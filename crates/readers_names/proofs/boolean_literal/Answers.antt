@@ -13,15 +13,15 @@ use Rattle.readers_names.proofs.boolean_literal.Goals as goal
 pub returns-in-18 : goal.returns-in-18
 unfolding computing
 returns-in-18 c =
-    let word = c.before.before.before.before.before in record {
-      at_any = λ d. frame_on (rule "boolean_literal") (among (only "TRUE")) word.next_kind-next.ensures
-          word.in-18.is (read_word refl tt word.take-word.ensures c.node.ensures);
+    record {
+      at_any = λ d. frame_on (rule "boolean_literal") (among (only "TRUE")) c.next_kind-next.ensures
+          c.in-18.is (read_word refl tt c.take-word.ensures c.node.ensures);
     }
 
 pub returns-in_default : goal.returns-in_default
 unfolding computing
 returns-in_default c =
-    let word = c.before.before.before.before.before in record {
-      at_any = λ d. frame_on (rule "boolean_literal") (except (only "TRUE" ∷ [])) word.next_kind-next.ensures
-          word.in_default.in_default-own.rest (read_word refl tt word.take-word-in_default.ensures c.node-in_default.ensures);
+    record {
+      at_any = λ d. frame_on (rule "boolean_literal") (except (only "TRUE" ∷ [])) c.next_kind-next.ensures
+          c.in_default.in_default-own.rest (read_word refl tt c.take-word-in_default.ensures c.node-in_default.ensures);
     }

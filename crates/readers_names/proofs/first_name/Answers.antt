@@ -11,10 +11,10 @@ use Rattle.readers_names.proofs.first_name.Goals as goal
 pub returns-in-69 : goal.returns-in-69
 unfolding computing
 returns-in-69 c =
-    let mark = c.before.before in record {
+    record {
       reads = λ d w. record {
-        in_any = λ start hs. chosen (among (only "::")) mark.next_kind-next.ensures
-            mark.in-69.is (((mark.take-mark.ensures.reads _ _).in_any _ _) ▸ ((c.take.ensures.reads _ _).in_any _ _));
+        in_any = λ start hs. chosen (among (only "::")) c.next_kind-next.ensures
+            c.in-69.is (((c.take-mark.ensures.reads _ _).in_any _ _) ▸ ((c.take.ensures.reads _ _).in_any _ _));
       };
     }
 

@@ -13,19 +13,17 @@ use Rattle.readers_names.proofs.further_names.Goals as goal
 pub loop-mark-smaller : goal.loop-mark-smaller
 unfolding computing
 loop-mark-smaller c =
-    let name = c.before.before.before.before.before in let mark = name.before in
-    falls {R = one} {d = 0} (among (only "::")) mark.next_kind.ensures mark.loop-mark-test.true tt
-    (λ hs. (((mark.take-mark.ensures.reads _ _).in_any _ _) ▸ ((name.take-name.ensures.reads _ _).in_any _ _))
+    falls {R = one} {d = 0} (among (only "::")) c.next_kind.ensures c.loop-mark-test.true tt
+    (λ hs. (((c.take-mark.ensures.reads _ _).in_any _ _) ▸ ((c.take-name.ensures.reads _ _).in_any _ _))
     ▸ (c.node-names.ensures.wraps refl _ _ _ tt))
 
 pub loop-mark-preserved : goal.loop-mark-preserved
 unfolding computing
 loop-mark-preserved c =
-    let name = c.before.before.before.before.before in let mark = name.before in
-    let so_far = mark.loop-mark.invariant in (
+    let so_far = c.loop-mark.invariant in (
       c.node-names.auto.tree ∙ so_far.0,
-      λ d. far_more (among (only "::")) mark.next_kind.ensures mark.loop-mark-test.true tt
-          (λ hs. (((mark.take-mark.ensures.reads _ _).in_any _ _) ▸ ((name.take-name.ensures.reads _ _).in_any _ _))
+      λ d. far_more (among (only "::")) c.next_kind.ensures c.loop-mark-test.true tt
+          (λ hs. (((c.take-mark.ensures.reads _ _).in_any _ _) ▸ ((c.take-name.ensures.reads _ _).in_any _ _))
           ▸ (c.node-names.ensures.wraps refl _ _ _ tt)) (so_far.1 d),
     )
 

@@ -12,15 +12,15 @@ use Rattle.readers_names.proofs.integer_type.Goals as goal
 pub returns-in-59 : goal.returns-in-59
 unfolding computing
 returns-in-59 c =
-    let arm = c.before.before.before.before.before in record {
-      at_any = λ d. passed_on (rule "integer_type") (among (only "unsigned")) arm.next_kind-next.ensures
-          arm.in-59.is refl tt (c.unsigned_int.ensures.at_any d);
+    record {
+      at_any = λ d. passed_on (rule "integer_type") (among (only "unsigned")) c.next_kind-next.ensures
+          c.in-59.is refl tt (c.unsigned_int.ensures.at_any d);
     }
 
 pub returns-in_default : goal.returns-in_default
 unfolding computing
 returns-in_default c =
-    let arm = c.before.before.before.before.before in record {
-      at_any = λ d. passed_on (rule "integer_type") (except (only "unsigned" ∷ [])) arm.next_kind-next.ensures
-          arm.in_default.in_default-own.rest refl tt (c.signed_int.ensures.at_any d);
+    record {
+      at_any = λ d. passed_on (rule "integer_type") (except (only "unsigned" ∷ [])) c.next_kind-next.ensures
+          c.in_default.in_default-own.rest refl tt (c.signed_int.ensures.at_any d);
     }

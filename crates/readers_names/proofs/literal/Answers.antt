@@ -21,26 +21,25 @@ use Rattle.readers_names.proofs.literal.Goals.{in_default-via-then-next-lt2, in_
 pub returns-in-2 : goal.returns-in-2
 unfolding computing row
 returns-in-2 c =
-    let word = c.before.before.before.before.before in let next = word.next_kind-next in record {
+    let next = c.next_kind-next in record {
       at_any = λ d. frame (rule "literal") (taken_of (among (row integer 5)) next.ensures
           (any_row integer 4 next.result (omega arith) (omega arith)) tt
-          (read_word refl tt word.take-token.ensures c.node.ensures));
+          (read_word refl tt c.take-token.ensures c.node.ensures));
     }
 
 pub returns-in-7 : goal.returns-in-7
 unfolding comes_as AnyOf row
 returns-in-7 c =
-    let strings = c.before.before.before.before.before in
-    let test = strings.before in let next = test.next_kind-next in record {
+    let next = c.next_kind-next in record {
       at_any = λ d. frame (rule "literal") (chosen_by (λ k. seq (string_literal k) (make "literal")) (row string 2)
           next.ensures (any_row string 1 next.result (omega arith) (omega arith)) tt
-          (((strings.string_literal-strings.ensures.reads _ _).in_any _ _) ▸ (c.node-in-7.ensures.wraps refl _ _ _ tt)));
+          (((c.string_literal-strings.ensures.reads _ _).in_any _ _) ▸ (c.node-in-7.ensures.wraps refl _ _ _ tt)));
     }
 
 pub returns-in_default : goal.returns-in_default
 unfolding computing row
 returns-in_default c =
-    let outside = c.before.before.before.before.before in let next = outside.next_kind-next in record {
+    let next = c.next_kind-next in record {
       at_any = λ d. passed_on (rule "literal") (except (row integer 7 ∷ [])) next.ensures (
         tt,
         none_row integer 6 next.result

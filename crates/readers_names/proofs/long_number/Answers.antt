@@ -13,15 +13,15 @@ use Rattle.readers_names.proofs.long_number.Goals as goal
 pub returns-in-30 : goal.returns-in-30
 unfolding computing
 returns-in-30 c =
-    let word = c.before.before.before.before.before in record {
-      at_any = λ d. chosen (among (only "double")) word.next_kind-next.ensures word.in-30.is
-          (read_word refl tt word.take-word.ensures c.node.ensures);
+    record {
+      at_any = λ d. chosen (among (only "double")) c.next_kind-next.ensures c.in-30.is
+          (read_word refl tt c.take-word.ensures c.node.ensures);
     }
 
 pub returns-in_default : goal.returns-in_default
 unfolding computing
 returns-in_default c =
-    let arm = c.before.before.before.before.before in record {
-      at_any = λ d. chosen (except (only "double" ∷ [])) arm.next_kind-next.ensures arm.in_default.in_default-own.rest
+    record {
+      at_any = λ d. chosen (except (only "double" ∷ [])) c.next_kind-next.ensures c.in_default.in_default-own.rest
           ((c.behind_long.ensures.at_any _) ▸ unrecorded tt ▸ unrecorded tt);
     }

@@ -10,25 +10,25 @@ use Rattle.readers_names.proofs.neighbours.Goals as goal
 pub loop-strings-smaller : goal.loop-strings-smaller
 unfolding computing
 loop-strings-smaller c =
-    let loop = c.before.before.before.before in let kind = loop.args.kind in
+    let kind = c.args.kind in
     falls {R = one} {start = 0} (among (kind ∷ [])) c.next_kind.ensures c.loop-strings-test.true
-    (kind_again (table_in one) kind loop.requires.1) (λ hs. (c.take-strings.ensures.reads 0 []).in_any _ _)
+    (kind_again (table_in one) kind c.requires.1) (λ hs. (c.take-strings.ensures.reads 0 []).in_any _ _)
 
 pub loop-strings-preserved : goal.loop-strings-preserved
 unfolding computing
 loop-strings-preserved c =
-    let loop = c.before.before.before.before in let kind = loop.args.kind in
+    let kind = c.args.kind in
     λ R d w start. far_more (among (kind ∷ [])) c.next_kind.ensures c.loop-strings-test.true
-    (kind_again (table_in R) kind loop.requires.1) (λ hs. (c.take-strings.ensures.reads _ _).in_any _ _)
-    (loop.loop-strings.invariant R d w start)
+    (kind_again (table_in R) kind c.requires.1) (λ hs. (c.take-strings.ensures.reads _ _).in_any _ _)
+    (c.loop-strings.invariant R d w start)
 
 pub returns : goal.returns
 unfolding computing
 returns c =
-    let loop = c.before.before.before in let kind = loop.args.kind in record {
+    let kind = c.args.kind in record {
       reads = λ {R} d w. record {
         in_any = λ start. far_over (except ((kind ∷ []) ∷ [])) c.next_kind.ensures (tt, c.loop-strings-test.false)
-            (kind_over (table_in R) kind) (loop.loop-strings.invariant R d w start);
+            (kind_over (table_in R) kind) (c.loop-strings.invariant R d w start);
       };
     }
 

@@ -61,11 +61,10 @@ take-word-requires c =
 pub returns-then-is_one_of : goal.returns-then-is_one_of
 unfolding computing
 returns-then-is_one_of c =
-    let test = c.before.before.before.before.before.before in
     record {
       reads = λ e q. record {
         at_any = λ d. frame_by _ q
-            (taken _ _ _ test.is_one_of.ensures test.next_kind-next.ensures test.if-is_one_of.true
+            (taken _ _ _ c.is_one_of.ensures c.next_kind-next.ensures c.if-is_one_of.true
             ((c.take-word.ensures.reads _ _).in_any _ _ ▸
             c.node.ensures.wraps e _ _ _ tt));
       };
@@ -74,11 +73,10 @@ returns-then-is_one_of c =
 pub returns : goal.returns
 unfolding computing
 returns c =
-    let test = c.before.before.before.before.before.before in
     record {
       reads = λ e q. record {
         at_any = λ d. frame_by _ q
-            (missed _ _ _ test.is_one_of.ensures test.next_kind-next.ensures test.if-is_one_of.false
+            (missed _ _ _ c.is_one_of.ensures c.next_kind-next.ensures c.if-is_one_of.false
             ((c.take-word-2.ensures.reads _ _).in_any _ _ ▸
             c.node-2.ensures.wraps e _ _ _ tt));
       };

@@ -8,6 +8,6 @@ use Rattle.readers_names.proofs.one_token.Goals as goal
 pub returns : goal.returns
 unfolding computing
 returns c =
-    let made = c.before.before.before in record {
-      reads = λ e q. record { at_any = λ d. frame_by _ q (read_word e tt made.take-token.ensures made.node.ensures) };
+    record {
+      reads = λ e q. record { at_any = λ d. frame_by _ q (read_word e tt c.take-token.ensures c.node.ensures) };
     }

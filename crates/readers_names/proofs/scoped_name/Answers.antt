@@ -10,8 +10,8 @@ use Rattle.readers_names.proofs.scoped_name.Goals as goal
 pub returns : goal.returns
 unfolding computing
 returns c =
-    let first = c.before.before.before.before.before.before.before in record {
-      at_any = λ d. frame (rule "scoped_name") (((first.first_name-name.ensures.reads _ _).in_any _ _)
-          ▸ (first.node-first.ensures.wraps refl _ _ _ tt)
+    record {
+      at_any = λ d. frame (rule "scoped_name") (((c.first_name-name.ensures.reads _ _).in_any _ _)
+          ▸ (c.node-first.ensures.wraps refl _ _ _ tt)
           ▸ ((c.further_names.ensures.at_any _).of_any _));
     }

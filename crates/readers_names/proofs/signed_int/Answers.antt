@@ -14,18 +14,18 @@ use Rattle.readers_names.proofs.signed_int.Goals as goal
 pub returns-in-51 : goal.returns-in-51
 unfolding computing
 returns-in-51 c =
-    let word = c.before.before.before.before.before in record {
-      at_any = λ d. frame_on (rule "signed_int") (among (only "short")) word.next_kind-next.ensures
-          word.in-51.is (read_word refl tt word.take-word.ensures c.node.ensures
+    record {
+      at_any = λ d. frame_on (rule "signed_int") (among (only "short")) c.next_kind-next.ensures
+          c.in-51.is (read_word refl tt c.take-word.ensures c.node.ensures
           ▸ unrecorded tt);
     }
 
 pub returns-in_default : goal.returns-in_default
 unfolding computing
 returns-in_default c =
-    let word = c.before.before.before.before.before in record {
-      at_any = λ d. frame_on (rule "signed_int") (except (only "short" ∷ [])) word.next_kind-next.ensures
-          word.in_default.in_default-own.rest
-          ((((word.take-word-in_default.ensures.reads _ _).in_any _ _) ▸ (c.behind_long.ensures.at_any _))
+    record {
+      at_any = λ d. frame_on (rule "signed_int") (except (only "short" ∷ [])) c.next_kind-next.ensures
+          c.in_default.in_default-own.rest
+          ((((c.take-word-in_default.ensures.reads _ _).in_any _ _) ▸ (c.behind_long.ensures.at_any _))
           ▸ unrecorded tt);
     }

@@ -9,7 +9,7 @@ use Rattle.readers_names.proofs.unsigned_int.Goals as goal
 pub returns : goal.returns
 unfolding computing
 returns c =
-    let word = c.before.before.before.before.before in record {
-      at_any = λ d. frame (rule "unsigned_int") (((word.take-word.ensures.reads _ _).in_any _ _)
+    record {
+      at_any = λ d. frame (rule "unsigned_int") (((c.take-word.ensures.reads _ _).in_any _ _)
           ▸ ((c.behind_unsigned.ensures.at_any _).of_any _) ▸ unrecorded tt);
     }

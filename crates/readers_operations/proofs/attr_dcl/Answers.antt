@@ -16,8 +16,6 @@ list-names-requires c = (search rules, inr (inl refl))
 pub returns : goal.returns
 unfolding computing append
 returns c =
-    let names = c.before.before.before.before.before.before.before in
-    let typed = names.before.before.before.before in
-    frame (rule "attr_dcl") ((typed.readonly-word.ensures.reads _ _).in_any _ _ ▸
-    (typed.take-words.ensures.reads _ _).in_any _ _ ▸ typed.param_type_spec-spec.ensures.in_any _ _ ▸
-    (names.list-names.ensures.in_any _ _ ▸▸ c.node.ensures.wraps refl _ _ _ tt))
+    frame (rule "attr_dcl") ((c.readonly-word.ensures.reads _ _).in_any _ _ ▸
+    (c.take-words.ensures.reads _ _).in_any _ _ ▸ c.param_type_spec-spec.ensures.in_any _ _ ▸
+    (c.list-names.ensures.in_any _ _ ▸▸ c.node.ensures.wraps refl _ _ _ tt))

@@ -16,13 +16,11 @@ use Rattle.readers_operations.proofs.context.Goals as goal
 pub returns-then-next-eq-CONTEXT : goal.returns-then-next-eq-CONTEXT
 unfolding computing append
 returns-then-next-eq-CONTEXT c =
-    let listed = c.before.before.before.before.before.before in
-    let word = listed.before.before.before in
-    picked (among (only "context")) word.next_kind-next.ensures word.if-next-eq-CONTEXT.true
-    (frame (rule "context_expr") ((word.take-word.ensures.reads _ _).in_any _ _ ▸
-    (enclosed listed.open-inside.ensures (record {
-      in_any = λ start hs. (listed.string_literal-first.ensures.reads _ _).in_any _ _ ▸▸
-          (listed.further_strings-listed.ensures.reads _ _).in_any _ _;
+    picked (among (only "context")) c.next_kind-next.ensures c.if-next-eq-CONTEXT.true
+    (frame (rule "context_expr") ((c.take-word.ensures.reads _ _).in_any _ _ ▸
+    (enclosed c.open-inside.ensures (record {
+      in_any = λ start hs. (c.string_literal-first.ensures.reads _ _).in_any _ _ ▸▸
+          (c.further_strings-listed.ensures.reads _ _).in_any _ _;
     }) c.take-closed.ensures).in_any _ _ ▸
     c.node.ensures.wraps refl _ _ _ tt))
 

@@ -19,8 +19,7 @@ loop-comma-smaller c =
 pub loop-comma-preserved : goal.loop-comma-preserved
 unfolding computing
 loop-comma-preserved c =
-    let test = c.before.before.before in
-    λ R d w start. far_more (among (only ",")) test.next_kind.ensures test.loop-comma-test.true tt
+    λ R d w start. far_more (among (only ",")) c.next_kind.ensures c.loop-comma-test.true tt
     (λ hs. (c.take-comma.ensures.reads _ _).in_any _ _ ▸ (c.string_literal-listed.ensures.reads _ _).in_any _ _)
     (c.loop-comma.invariant R d w start)
 

@@ -11,11 +11,14 @@ use Rattle.readers_operations.proofs.oneway.Goals as goal
 pub returns-then-next-eq-ONEWAY : goal.returns-then-next-eq-ONEWAY
 unfolding computing
 returns-then-next-eq-ONEWAY c =
-    let test = c.before.before.before.before.before in record {
-      at_any = λ d. picked (among (only "oneway")) test.next_kind-next.ensures test.if-next-eq-ONEWAY.true
+    record {
+      at_any = λ d. picked (among (only "oneway")) c.next_kind-next.ensures c.if-next-eq-ONEWAY.true
           ((c.one_token.ensures.reads refl refl).at_any d);
     }
 
 pub returns : goal.returns
 unfolding computing
-returns c = record { at_any = λ d. picked (except (only "oneway" ∷ [])) c.next_kind-next.ensures (tt, c.if-next-eq-ONEWAY.false) left_out }
+returns c =
+    record {
+      at_any = λ d. picked (except (only "oneway" ∷ [])) c.next_kind-next.ensures (tt, c.if-next-eq-ONEWAY.false) left_out;
+    }

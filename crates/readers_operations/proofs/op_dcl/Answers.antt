@@ -9,32 +9,22 @@ use Rattle.readers_operations.proofs.op_dcl.Goals as goal
 
 pub raises-raising-requires : goal.raises-raising-requires
 raises-raising-requires c =
-    let name = c.before.before.before.before.before.before in
-    name.requires
+    c.requires
 
 pub context-whole-requires : goal.context-whole-requires
 context-whole-requires c =
-    let name = c.before.before.before.before.before.before.before.before.before.before in
-    name.requires
+    c.requires
 
 pub shape_of-tree : goal.shape_of-tree
 shape_of-tree c =
-    let whole = c.before.before.before.before.before.before.before in
-    let raising = whole.before.before.before.before in
-    let taking = raising.before.before.before.before in
-    let typed = taking.before.before.before.before.before in
-    c.node.auto.tree ∙ whole.context-whole.auto.tree ∙ raising.raises-raising.auto.tree ∙
-    taking.parameter_dcls-taking.auto.tree ∙ typed.op_type_spec-spec.auto.tree ∙
-    typed.oneway-attribute.auto.tree
+    c.node.auto.tree ∙ c.context-whole.auto.tree ∙ c.raises-raising.auto.tree ∙
+    c.parameter_dcls-taking.auto.tree ∙ c.op_type_spec-spec.auto.tree ∙
+    c.oneway-attribute.auto.tree
 
 pub returns : goal.returns
 unfolding computing
 returns c =
-    let whole = c.before.before.before.before.before.before.before in
-    let raising = whole.before.before.before.before in
-    let taking = raising.before.before.before.before in
-    let typed = taking.before.before.before.before.before in
-    frame (rule "op_dcl") ((typed.oneway-attribute.ensures.at_any _).in_any _ _ ▸
-    typed.op_type_spec-spec.ensures.in_any _ _ ▸ (taking.take-name.ensures.reads _ _).in_any _ _ ▸
-    taking.parameter_dcls-taking.ensures.in_any _ _ ▸ raising.raises-raising.ensures.in_any _ _ ▸
-    whole.context-whole.ensures.in_any _ _ ▸ c.node.ensures.wraps refl _ _ _ tt)
+    frame (rule "op_dcl") ((c.oneway-attribute.ensures.at_any _).in_any _ _ ▸
+    c.op_type_spec-spec.ensures.in_any _ _ ▸ (c.take-name.ensures.reads _ _).in_any _ _ ▸
+    c.parameter_dcls-taking.ensures.in_any _ _ ▸ c.raises-raising.ensures.in_any _ _ ▸
+    c.context-whole.ensures.in_any _ _ ▸ c.node.ensures.wraps refl _ _ _ tt)

@@ -13,13 +13,11 @@ use Rattle.readers_operations.proofs.op_type_spec.Goals as goal
 pub returns-then-next-eq-VOID : goal.returns-then-next-eq-VOID
 unfolding computing
 returns-then-next-eq-VOID c =
-    let word = c.before.before.before.before.before in
-    frame_on (rule "op_type_spec") (among (only "void")) word.next_kind-next.ensures word.if-next-eq-VOID.true
-    ((word.take-word.ensures.reads _ _).in_any _ _ ▸ c.node.ensures.wraps refl _ _ _ tt)
+    frame_on (rule "op_type_spec") (among (only "void")) c.next_kind-next.ensures c.if-next-eq-VOID.true
+    ((c.take-word.ensures.reads _ _).in_any _ _ ▸ c.node.ensures.wraps refl _ _ _ tt)
 
 pub returns : goal.returns
 unfolding computing
 returns c =
-    let test = c.before.before.before.before.before in
-    passed_on (rule "op_type_spec") (except (only "void" ∷ [])) test.next_kind-next.ensures (tt, test.if-next-eq-VOID.false) refl tt
+    passed_on (rule "op_type_spec") (except (only "void" ∷ [])) c.next_kind-next.ensures (tt, c.if-next-eq-VOID.false) refl tt
     c.param_type_spec.ensures

@@ -11,7 +11,6 @@ use Rattle.readers_operations.proofs.parameter_dcls.Goals as goal
 pub returns : goal.returns
 unfolding computing
 returns c =
-    let inside = c.before.before.before.before.before.before.before.before in
     frame (rule "parameter_dcls")
-    ((between inside.open-inside.ensures inside.inner.ensures inside.parameters-listed.ensures
+    ((between c.open-inside.ensures c.inner.ensures c.parameters-listed.ensures
     c.take-closed.ensures).in_any _ _ ▸ c.node.ensures.wraps refl _ _ _ tt)

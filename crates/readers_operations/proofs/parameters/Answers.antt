@@ -17,9 +17,8 @@ list-requires c = (search rules, inr (inr (inl refl)))
 pub returns-then-is_one_of : goal.returns-then-is_one_of
 unfolding computing
 returns-then-is_one_of c =
-    let test = c.before.before.before.before.before in
-    picked (among directions) test.next_kind-next.ensures
-    (is_in directions test.next_kind-next.result test.is_one_of.ensures test.if-is_one_of.true)
+    picked (among directions) c.next_kind-next.ensures
+    (is_in directions c.next_kind-next.result c.is_one_of.ensures c.if-is_one_of.true)
     c.list.ensures
 
 pub returns : goal.returns

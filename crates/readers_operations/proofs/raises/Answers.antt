@@ -20,11 +20,9 @@ list-names-requires c = (search rules, inl refl)
 pub returns-then-next-eq-RAISES : goal.returns-then-next-eq-RAISES
 unfolding computing
 returns-then-next-eq-RAISES c =
-    let inside = c.before.before.before.before.before.before.before.before in
-    let word = inside.before.before.before.before in
-    picked (among (only "raises")) word.next_kind-next.ensures word.if-next-eq-RAISES.true
-    (frame (rule "raises_expr") ((word.take-word.ensures.reads _ _).in_any _ _ ▸
-    (between inside.open-inside.ensures inside.inner.ensures inside.list-names.ensures
+    picked (among (only "raises")) c.next_kind-next.ensures c.if-next-eq-RAISES.true
+    (frame (rule "raises_expr") ((c.take-word.ensures.reads _ _).in_any _ _ ▸
+    (between c.open-inside.ensures c.inner.ensures c.list-names.ensures
     c.take-closed.ensures).in_any _ _ ▸ c.node.ensures.wraps refl _ _ _ tt))
 
 pub returns : goal.returns

@@ -16,4 +16,8 @@ returns-then-next-eq-READONLY c = record {
 
 pub returns : goal.returns
 unfolding computing
-returns c = record { reads = λ d tree. picked (except (only "readonly" ∷ [])) c.next_kind-next.ensures (tt, c.if-next-eq-READONLY.false) left_out }
+returns c =
+    record {
+      reads = λ d tree. picked (except (only "readonly" ∷ [])) c.next_kind-next.ensures (tt, c.if-next-eq-READONLY.false)
+          left_out;
+    }

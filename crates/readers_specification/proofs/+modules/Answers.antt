@@ -17,7 +17,8 @@ use native.Mathlib.Omega.{arith}
 use Rattle.readers_specification.proofs.+modules.Goals as goal
 
 pub defined-other_definition-requires : goal.defined-other_definition-requires
-defined-other_definition-requires t c = record { addressable = c.requires; no_module = λ e. c.in_default.in_default-own.rest.1 (c.next_kind-next.ensures ∙ e) }
+defined-other_definition-requires t c =
+    record { addressable = c.requires; no_module = λ e. c.in_default.in_default-own.rest.1 (c.next_kind-next.ensures ∙ e) }
 
 pub defined-returns-in-41 : goal.defined-returns-in-41
 unfolding computing

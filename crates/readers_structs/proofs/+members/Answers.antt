@@ -21,7 +21,10 @@ case_clause-element_spec-element-requires t c = omega (arith, c.requires)
 
 pub case_clause-returns : goal.case_clause-returns
 unfolding computing
-case_clause-returns t c = frame (rule "case") ((c.case_label-label.ensures.in_any _ _) ▸ (c.further_labels-labels.ensures.in_any _ _) ▸ (c.element_spec-element.ensures.in_any _ _) ▸ ((c.take-end.ensures.reads _ _).in_any _ _) ▸ (c.node.ensures.wraps refl _ _ _ tt))
+case_clause-returns t c =
+    frame (rule "case") ((c.case_label-label.ensures.in_any _ _) ▸ (c.further_labels-labels.ensures.in_any _ _) ▸
+    (c.element_spec-element.ensures.in_any _ _) ▸ ((c.take-end.ensures.reads _ _).in_any _ _) ▸
+    (c.node.ensures.wraps refl _ _ _ tt))
 
 pub constr_type_spec-struct_type-requires : goal.constr_type_spec-struct_type-requires
 constr_type_spec-struct_type-requires t c = omega (arith, c.requires)
@@ -31,22 +34,28 @@ constr_type_spec-union_type-requires t c = omega (arith, c.requires)
 
 pub constr_type_spec-returns-in-53 : goal.constr_type_spec-returns-in-53
 unfolding computing
-constr_type_spec-returns-in-53 t c = passed_on (rule "constr_type_spec") (among (only "struct")) c.next_kind-next.ensures c.in-53.is refl tt c.struct_type.ensures
+constr_type_spec-returns-in-53 t c =
+    passed_on (rule "constr_type_spec") (among (only "struct")) c.next_kind-next.ensures c.in-53.is refl tt c.struct_type.ensures
 
 pub constr_type_spec-returns-in-58 : goal.constr_type_spec-returns-in-58
 unfolding computing
-constr_type_spec-returns-in-58 t c = passed_on (rule "constr_type_spec") (among (only "union")) c.next_kind-next.ensures c.in-58.is refl tt c.union_type.ensures
+constr_type_spec-returns-in-58 t c =
+    passed_on (rule "constr_type_spec") (among (only "union")) c.next_kind-next.ensures c.in-58.is refl tt c.union_type.ensures
 
 pub constr_type_spec-returns-in_default : goal.constr_type_spec-returns-in_default
 unfolding computing
-constr_type_spec-returns-in_default t c = passed_on (rule "constr_type_spec") (except (only "union" ∷ only "struct" ∷ [])) c.next_kind-next.ensures c.in_default.in_default-own.rest refl tt c.enum_type.ensures
+constr_type_spec-returns-in_default t c =
+    passed_on (rule "constr_type_spec") (except (only "union" ∷ only "struct" ∷ [])) c.next_kind-next.ensures
+    c.in_default.in_default-own.rest refl tt c.enum_type.ensures
 
 pub element_spec-type_spec-spec-requires : goal.element_spec-type_spec-spec-requires
 element_spec-type_spec-spec-requires t c = omega (arith, c.requires)
 
 pub element_spec-returns : goal.element_spec-returns
 unfolding computing
-element_spec-returns t c = frame (rule "element_spec") ((c.type_spec-spec.ensures.in_any _ _) ▸ (c.declarator-name.ensures.in_any _ _) ▸ (c.node.ensures.wraps refl _ _ _ tt))
+element_spec-returns t c =
+    frame (rule "element_spec") ((c.type_spec-spec.ensures.in_any _ _) ▸ (c.declarator-name.ensures.in_any _ _) ▸
+    (c.node.ensures.wraps refl _ _ _ tt))
 
 pub further_cases-loop-tree-init : goal.further_cases-loop-tree-init
 further_cases-loop-tree-init t c = no_turn
@@ -56,15 +65,21 @@ further_cases-case_clause-last-requires t c = omega (arith, c.requires)
 
 pub further_cases-loop-tree-smaller : goal.further_cases-loop-tree-smaller
 unfolding computing
-further_cases-loop-tree-smaller t c = turn_less case_starts c.next_kind.ensures (is_in case_starts _ c.starts_case.ensures c.loop-tree-test.true) tt c.case_clause-last.ensures
+further_cases-loop-tree-smaller t c =
+    turn_less case_starts c.next_kind.ensures (is_in case_starts _ c.starts_case.ensures c.loop-tree-test.true) tt
+    c.case_clause-last.ensures
 
 pub further_cases-loop-tree-preserved : goal.further_cases-loop-tree-preserved
 unfolding computing
-further_cases-loop-tree-preserved t c = turn_again case_starts c.next_kind.ensures (is_in case_starts _ c.starts_case.ensures c.loop-tree-test.true) tt c.case_clause-last.ensures c.case_clause-last.auto.tree c.loop-tree.invariant
+further_cases-loop-tree-preserved t c =
+    turn_again case_starts c.next_kind.ensures (is_in case_starts _ c.starts_case.ensures c.loop-tree-test.true) tt
+    c.case_clause-last.ensures c.case_clause-last.auto.tree c.loop-tree.invariant
 
 pub further_cases-returns : goal.further_cases-returns
 unfolding computing
-further_cases-returns t c = turned case_starts c.next_kind.ensures (is_out case_starts _ c.starts_case.ensures c.loop-tree-test.false) tt c.loop-tree.invariant
+further_cases-returns t c =
+    turned case_starts c.next_kind.ensures (is_out case_starts _ c.starts_case.ensures c.loop-tree-test.false) tt
+    c.loop-tree.invariant
 
 pub further_members-loop-tree-init : goal.further_members-loop-tree-init
 further_members-loop-tree-init t c = no_turn
@@ -74,22 +89,30 @@ further_members-member-last-requires t c = omega (arith, c.requires)
 
 pub further_members-loop-tree-smaller : goal.further_members-loop-tree-smaller
 unfolding computing
-further_members-loop-tree-smaller t c = turn_less type_starts c.next_kind.ensures (is_in type_starts _ c.starts_type.ensures c.loop-tree-test.true) tt c.member-last.ensures
+further_members-loop-tree-smaller t c =
+    turn_less type_starts c.next_kind.ensures (is_in type_starts _ c.starts_type.ensures c.loop-tree-test.true) tt
+    c.member-last.ensures
 
 pub further_members-loop-tree-preserved : goal.further_members-loop-tree-preserved
 unfolding computing
-further_members-loop-tree-preserved t c = turn_again type_starts c.next_kind.ensures (is_in type_starts _ c.starts_type.ensures c.loop-tree-test.true) tt c.member-last.ensures c.member-last.auto.tree c.loop-tree.invariant
+further_members-loop-tree-preserved t c =
+    turn_again type_starts c.next_kind.ensures (is_in type_starts _ c.starts_type.ensures c.loop-tree-test.true) tt
+    c.member-last.ensures c.member-last.auto.tree c.loop-tree.invariant
 
 pub further_members-returns : goal.further_members-returns
 unfolding computing
-further_members-returns t c = turned type_starts c.next_kind.ensures (is_out type_starts _ c.starts_type.ensures c.loop-tree-test.false) tt c.loop-tree.invariant
+further_members-returns t c =
+    turned type_starts c.next_kind.ensures (is_out type_starts _ c.starts_type.ensures c.loop-tree-test.false) tt
+    c.loop-tree.invariant
 
 pub member-type_spec-spec-requires : goal.member-type_spec-spec-requires
 member-type_spec-spec-requires t c = omega (arith, c.requires)
 
 pub member-returns : goal.member-returns
 unfolding computing
-member-returns t c = frame (rule "member") ((c.type_spec-spec.ensures.in_any _ _) ▸ (c.declarators-names.ensures.in_any _ _) ▸ ((c.take-end.ensures.reads _ _).in_any _ _) ▸ (c.node.ensures.wraps refl _ _ _ tt))
+member-returns t c =
+    frame (rule "member") ((c.type_spec-spec.ensures.in_any _ _) ▸ (c.declarators-names.ensures.in_any _ _) ▸
+    ((c.take-end.ensures.reads _ _).in_any _ _) ▸ (c.node.ensures.wraps refl _ _ _ tt))
 
 pub member_list-member-first-requires : goal.member_list-member-first-requires
 member_list-member-first-requires t c = omega (arith, c.requires)
@@ -99,11 +122,15 @@ member_list-further_members-last-requires t c = omega (arith, c.requires)
 
 pub member_list-returns-then-starts_type : goal.member_list-returns-then-starts_type
 unfolding computing
-member_list-returns-then-starts_type t c = several_parts refl c.member-first.ensures (among type_starts) c.next_kind.ensures (is_in type_starts _ c.starts_type.ensures c.if-starts_type.true) tt c.further_members-last.ensures refl c.node.ensures tt
+member_list-returns-then-starts_type t c =
+    several_parts refl c.member-first.ensures (among type_starts) c.next_kind.ensures
+    (is_in type_starts _ c.starts_type.ensures c.if-starts_type.true) tt c.further_members-last.ensures refl c.node.ensures tt
 
 pub member_list-returns : goal.member_list-returns
 unfolding computing
-member_list-returns t c = one_part refl c.member-first.ensures (except (type_starts ∷ [])) c.next_kind.ensures (is_out type_starts _ c.starts_type.ensures c.if-starts_type.false) (λ u. u) tt tt
+member_list-returns t c =
+    one_part refl c.member-first.ensures (except (type_starts ∷ [])) c.next_kind.ensures
+    (is_out type_starts _ c.starts_type.ensures c.if-starts_type.false) (λ u. u) tt tt
 
 pub struct_body-returns-then-has_stopped : goal.struct_body-returns-then-has_stopped
 unfolding computing
@@ -113,7 +140,8 @@ pub struct_body-overflow_sub-depth : goal.struct_body-overflow_sub-depth
 struct_body-overflow_sub-depth t c = omega (arith, room c.open-inside.ensures c.has_stopped.ensures c.if-has_stopped.false)
 
 pub struct_body-member_list-members-requires : goal.struct_body-member_list-members-requires
-struct_body-member_list-members-requires t c = let pre = c.requires in omega (arith, pre, room c.open-inside.ensures c.has_stopped.ensures c.if-has_stopped.false)
+struct_body-member_list-members-requires t c =
+    let pre = c.requires in omega (arith, pre, room c.open-inside.ensures c.has_stopped.ensures c.if-has_stopped.false)
 
 pub struct_body-returns : goal.struct_body-returns
 unfolding computing
@@ -124,7 +152,9 @@ struct_type-struct_body-body-requires t c = omega (arith, c.requires)
 
 pub struct_type-returns : goal.struct_type-returns
 unfolding computing
-struct_type-returns t c = frame (rule "struct_type") (((c.take-word.ensures.reads _ _).in_any _ _) ▸ ((c.take-name.ensures.reads _ _).in_any _ _) ▸ (c.struct_body-body.ensures.in_any _ _) ▸ (c.node.ensures.wraps refl _ _ _ tt))
+struct_type-returns t c =
+    frame (rule "struct_type") (((c.take-word.ensures.reads _ _).in_any _ _) ▸ ((c.take-name.ensures.reads _ _).in_any _ _) ▸
+    (c.struct_body-body.ensures.in_any _ _) ▸ (c.node.ensures.wraps refl _ _ _ tt))
 
 pub switch_block-returns-then-has_stopped : goal.switch_block-returns-then-has_stopped
 unfolding computing
@@ -134,7 +164,8 @@ pub switch_block-overflow_sub-depth : goal.switch_block-overflow_sub-depth
 switch_block-overflow_sub-depth t c = omega (arith, room c.open-inside.ensures c.has_stopped.ensures c.if-has_stopped.false)
 
 pub switch_block-switch_body-cases-requires : goal.switch_block-switch_body-cases-requires
-switch_block-switch_body-cases-requires t c = let pre = c.requires in omega (arith, pre, room c.open-inside.ensures c.has_stopped.ensures c.if-has_stopped.false)
+switch_block-switch_body-cases-requires t c =
+    let pre = c.requires in omega (arith, pre, room c.open-inside.ensures c.has_stopped.ensures c.if-has_stopped.false)
 
 pub switch_block-returns : goal.switch_block-returns
 unfolding computing
@@ -148,33 +179,47 @@ switch_body-further_cases-last-requires t c = omega (arith, c.requires)
 
 pub switch_body-returns-then-starts_case : goal.switch_body-returns-then-starts_case
 unfolding computing
-switch_body-returns-then-starts_case t c = several_parts refl c.case_clause-first.ensures (among case_starts) c.next_kind.ensures (is_in case_starts _ c.starts_case.ensures c.if-starts_case.true) tt c.further_cases-last.ensures refl c.node.ensures tt
+switch_body-returns-then-starts_case t c =
+    several_parts refl c.case_clause-first.ensures (among case_starts) c.next_kind.ensures
+    (is_in case_starts _ c.starts_case.ensures c.if-starts_case.true) tt c.further_cases-last.ensures refl c.node.ensures tt
 
 pub switch_body-returns : goal.switch_body-returns
 unfolding computing
-switch_body-returns t c = one_part refl c.case_clause-first.ensures (except (case_starts ∷ [])) c.next_kind.ensures (is_out case_starts _ c.starts_case.ensures c.if-starts_case.false) (λ u. u) tt tt
+switch_body-returns t c =
+    one_part refl c.case_clause-first.ensures (except (case_starts ∷ [])) c.next_kind.ensures
+    (is_out case_starts _ c.starts_case.ensures c.if-starts_case.false) (λ u. u) tt tt
 
 pub type_spec-constr_type_spec-requires : goal.type_spec-constr_type_spec-requires
 type_spec-constr_type_spec-requires t c = omega (arith, c.requires)
 
 pub type_spec-returns-in-53 : goal.type_spec-returns-in-53
 unfolding computing
-type_spec-returns-in-53 t c = passed_on (rule "type_spec") (among (kinds_of ("enum" ∷ "struct" ∷ "union" ∷ []))) c.next_kind-next.ensures c.in-53.is refl tt c.constr_type_spec.ensures
+type_spec-returns-in-53 t c =
+    passed_on (rule "type_spec") (among (kinds_of ("enum" ∷ "struct" ∷ "union" ∷ []))) c.next_kind-next.ensures c.in-53.is refl tt
+    c.constr_type_spec.ensures
 
 pub type_spec-returns-in_default : goal.type_spec-returns-in_default
 unfolding computing
-type_spec-returns-in_default t c = passed_on (rule "type_spec") (except (kinds_of ("enum" ∷ "struct" ∷ "union" ∷ []) ∷ [])) c.next_kind-next.ensures c.in_default.in_default-own.rest refl tt c.simple_type_spec.ensures
+type_spec-returns-in_default t c =
+    passed_on (rule "type_spec") (except (kinds_of ("enum" ∷ "struct" ∷ "union" ∷ []) ∷ [])) c.next_kind-next.ensures
+    c.in_default.in_default-own.rest refl tt c.simple_type_spec.ensures
 
 pub union_rest-switch_block-block-requires : goal.union_rest-switch_block-block-requires
 union_rest-switch_block-block-requires t c = omega (arith, c.requires)
 
 pub union_rest-returns : goal.union_rest-returns
 unfolding computing
-union_rest-returns t c = record { of_any = λ hs. ((c.take-word.ensures.reads _ _).in_any _ _) ▸ (c.switch_head-head.ensures.in_any _ _) ▸ (c.switch_block-block.ensures.in_any _ _) ▸ (c.node.ensures.wraps refl _ _ _ tt) }
+union_rest-returns t c =
+    record {
+      of_any = λ hs. ((c.take-word.ensures.reads _ _).in_any _ _) ▸ (c.switch_head-head.ensures.in_any _ _) ▸
+          (c.switch_block-block.ensures.in_any _ _) ▸ (c.node.ensures.wraps refl _ _ _ tt);
+    }
 
 pub union_type-union_rest-requires : goal.union_type-union_rest-requires
 union_type-union_rest-requires t c = omega (arith, c.requires)
 
 pub union_type-returns : goal.union_type-returns
 unfolding computing
-union_type-returns t c = frame (rule "union_type") (((c.take-word.ensures.reads _ _).in_any _ _) ▸ ((c.take-name.ensures.reads _ _).in_any _ _) ▸ (c.union_rest.ensures.of_any _))
+union_type-returns t c =
+    frame (rule "union_type") (((c.take-word.ensures.reads _ _).in_any _ _) ▸ ((c.take-name.ensures.reads _ _).in_any _ _) ▸
+    (c.union_rest.ensures.of_any _))

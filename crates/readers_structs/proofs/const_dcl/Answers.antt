@@ -10,8 +10,7 @@ use Rattle.readers_structs.proofs.const_dcl.Goals as goal
 pub returns : goal.returns
 unfolding computing
 returns c =
-    let name = c.before.before.before.before.before.before.before.before.before.before in
-    frame (rule "const_dcl") (((name.take-word.ensures.reads _ _).in_any _ _) ▸
-    (name.const_type-spec.ensures.in_any _ _) ▸ ((name.take-name.ensures.reads _ _).in_any _ _) ▸
+    frame (rule "const_dcl") (((c.take-word.ensures.reads _ _).in_any _ _) ▸
+    (c.const_type-spec.ensures.in_any _ _) ▸ ((c.take-name.ensures.reads _ _).in_any _ _) ▸
     ((c.take-equals.ensures.reads _ _).in_any _ _) ▸
     (c.const_exp-value.ensures.in_any _ _) ▸ (c.node.ensures.wraps refl _ _ _ tt))

@@ -5,5 +5,4 @@ use Rattle.readers_structs.proofs.exception_body.Goals as goal
 
 pub returns : goal.returns
 returns c =
-    let body = c.before.before.before.before in
-    between body.open-inside.ensures body.inner.ensures body.further_members-members.ensures c.take.ensures
+    between c.open-inside.ensures c.inner.ensures c.further_members-members.ensures c.take.ensures

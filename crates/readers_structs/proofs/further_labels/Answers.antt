@@ -9,18 +9,16 @@ use Rattle.readers_structs.proofs.further_labels.Goals as goal
 pub loop-tree-smaller : goal.loop-tree-smaller
 unfolding computing
 loop-tree-smaller c =
-    let turn = c.before.before.before.before.before in
-    turn_less case_starts turn.next_kind.ensures
-    (is_in case_starts _ turn.starts_case.ensures turn.loop-tree-test.true) tt
+    turn_less case_starts c.next_kind.ensures
+    (is_in case_starts _ c.starts_case.ensures c.loop-tree-test.true) tt
     c.case_label-last.ensures
 
 pub loop-tree-preserved : goal.loop-tree-preserved
 unfolding computing
 loop-tree-preserved c =
-    let turn = c.before.before.before.before.before in
-    turn_again case_starts turn.next_kind.ensures
-    (is_in case_starts _ turn.starts_case.ensures turn.loop-tree-test.true) tt
-    c.case_label-last.ensures c.case_label-last.auto.tree turn.loop-tree.invariant
+    turn_again case_starts c.next_kind.ensures
+    (is_in case_starts _ c.starts_case.ensures c.loop-tree-test.true) tt
+    c.case_label-last.ensures c.case_label-last.auto.tree c.loop-tree.invariant
 
 pub returns : goal.returns
 unfolding computing

@@ -24,7 +24,8 @@ other_arm = kinds_of ("enum" ∷ "float" ∷ "short" ∷ "struct" ∷ "unsigned"
 
 pub returns-then-kind-gt-LAST_KEYWORD : goal.returns-then-kind-gt-LAST_KEYWORD
 unfolding below
-returns-then-kind-gt-LAST_KEYWORD c = only_last (kind_of "wstring") low_type_starts (kind_of "::") c.args.kind tt c.if-kind-gt-LAST_KEYWORD.true
+returns-then-kind-gt-LAST_KEYWORD c =
+    only_last (kind_of "wstring") low_type_starts (kind_of "::") c.args.kind tt c.if-kind-gt-LAST_KEYWORD.true
 
 pub returns-in-1 : goal.returns-in-1
 unfolding AnyOf NoneOf flat subset elem

@@ -12,21 +12,19 @@ use Rattle.readers_structs.proofs.struct_dcl.Goals as goal
 pub returns-then-next-eq-OPEN_BRACE : goal.returns-then-next-eq-OPEN_BRACE
 unfolding computing
 returns-then-next-eq-OPEN_BRACE c =
-    let test = c.before.before.before.before.before.before.before.before.before in
     record {
-      of_any = λ hs. ((test.take-word.ensures.reads _ _).in_any _ _) ▸
-          ((test.take-name.ensures.reads _ _).in_any _ _) ▸
-          chosen (among (only "{")) test.next_kind-next.ensures test.if-next-eq-OPEN_BRACE.true
+      of_any = λ hs. ((c.take-word.ensures.reads _ _).in_any _ _) ▸
+          ((c.take-name.ensures.reads _ _).in_any _ _) ▸
+          chosen (among (only "{")) c.next_kind-next.ensures c.if-next-eq-OPEN_BRACE.true
           ((c.struct_body-body.ensures.in_any _ _) ▸ (c.node.ensures.wraps refl _ _ _ tt));
     }
 
 pub returns : goal.returns
 unfolding computing
 returns c =
-    let test = c.before.before.before.before.before in
     record {
-      of_any = λ hs. ((test.take-word.ensures.reads _ _).in_any _ _) ▸
-          ((test.take-name.ensures.reads _ _).in_any _ _) ▸
-          chosen (except (only "{" ∷ [])) test.next_kind-next.ensures (tt, test.if-next-eq-OPEN_BRACE.false)
+      of_any = λ hs. ((c.take-word.ensures.reads _ _).in_any _ _) ▸
+          ((c.take-name.ensures.reads _ _).in_any _ _) ▸
+          chosen (except (only "{" ∷ [])) c.next_kind-next.ensures (tt, c.if-next-eq-OPEN_BRACE.false)
           (c.node-2.ensures.wraps refl _ _ _ tt);
     }

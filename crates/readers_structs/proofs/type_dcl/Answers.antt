@@ -13,38 +13,33 @@ use Rattle.readers_structs.proofs.type_dcl.Goals as goal
 pub returns-in-57 : goal.returns-in-57
 unfolding computing
 returns-in-57 c =
-    let choice = c.before.before.before.before.before.before.before.before.before.before in
-    frame_on (rule "type_dcl") (among (only "typedef")) choice.next_kind-next.ensures choice.in-57.is
+    frame_on (rule "type_dcl") (among (only "typedef")) c.next_kind-next.ensures c.in-57.is
     ((((c.take-word.ensures.reads _ _).in_any _ _) ▸
     (c.type_declarator-types.ensures.in_any _ _)) ▸ (c.node.ensures.wraps refl _ _ _ tt))
 
 pub returns-in-53 : goal.returns-in-53
 unfolding computing
 returns-in-53 c =
-    let choice = c.before.before.before.before.before in
-    frame_on (rule "type_dcl") (among (only "struct")) choice.next_kind-next.ensures choice.in-53.is
+    frame_on (rule "type_dcl") (among (only "struct")) c.next_kind-next.ensures c.in-53.is
     ((c.struct_dcl.ensures.of_any _) ▸ unrecorded tt)
 
 pub returns-in-58 : goal.returns-in-58
 unfolding computing
 returns-in-58 c =
-    let choice = c.before.before.before.before.before in
-    frame_on (rule "type_dcl") (among (only "union")) choice.next_kind-next.ensures choice.in-58.is
+    frame_on (rule "type_dcl") (among (only "union")) c.next_kind-next.ensures c.in-58.is
     ((c.union_dcl.ensures.of_any _) ▸ unrecorded tt)
 
 pub returns-in-31 : goal.returns-in-31
 unfolding computing
 returns-in-31 c =
-    let choice = c.before.before.before.before.before in
-    passed_on (rule "type_dcl") (among (only "enum")) choice.next_kind-next.ensures choice.in-31.is refl tt
+    passed_on (rule "type_dcl") (among (only "enum")) c.next_kind-next.ensures c.in-31.is refl tt
     c.enum_type.ensures
 
 pub returns-in_default : goal.returns-in_default
 unfolding computing
 returns-in_default c =
-    let choice = c.before.before.before.before.before.before.before.before.before.before in
     frame_on (rule "type_dcl") (except (only "enum" ∷ only "union" ∷ only "struct" ∷ only "typedef" ∷ []))
-    choice.next_kind-next.ensures choice.in_default.in_default-own.rest
+    c.next_kind-next.ensures c.in_default.in_default-own.rest
     ((((c.take-word-in_default.ensures.reads _ _).in_any _ _) ▸
     (((c.one_token-name.ensures.reads refl refl).at_any _).in_any _ _)) ▸
     (c.node-in_default.ensures.wraps refl _ _ _ tt))

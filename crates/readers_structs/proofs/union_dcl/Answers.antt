@@ -12,19 +12,18 @@ use Rattle.readers_structs.proofs.union_dcl.Goals as goal
 pub returns-then-next-eq-SWITCH : goal.returns-then-next-eq-SWITCH
 unfolding computing
 returns-then-next-eq-SWITCH c =
-    let test = c.before.before.before.before.before in
     record {
-      of_any = λ hs. ((test.take-word.ensures.reads _ _).in_any _ _) ▸
-          ((test.take-name.ensures.reads _ _).in_any _ _) ▸
-          chosen (among (only "switch")) test.next_kind-next.ensures test.if-next-eq-SWITCH.true (c.union_rest.ensures.of_any _);
+      of_any = λ hs. ((c.take-word.ensures.reads _ _).in_any _ _) ▸
+          ((c.take-name.ensures.reads _ _).in_any _ _) ▸
+          chosen (among (only "switch")) c.next_kind-next.ensures c.if-next-eq-SWITCH.true (c.union_rest.ensures.of_any _);
     }
 
 pub returns : goal.returns
 unfolding computing
 returns c =
-    let test = c.before.before.before.before.before in
     record {
-      of_any = λ hs. ((test.take-word.ensures.reads _ _).in_any _ _) ▸
-          ((test.take-name.ensures.reads _ _).in_any _ _) ▸
-          chosen (except (only "switch" ∷ [])) test.next_kind-next.ensures (tt, test.if-next-eq-SWITCH.false) (c.node.ensures.wraps refl _ _ _ tt);
+      of_any = λ hs. ((c.take-word.ensures.reads _ _).in_any _ _) ▸
+          ((c.take-name.ensures.reads _ _).in_any _ _) ▸
+          chosen (except (only "switch" ∷ [])) c.next_kind-next.ensures (tt, c.if-next-eq-SWITCH.false)
+          (c.node.ensures.wraps refl _ _ _ tt);
     }

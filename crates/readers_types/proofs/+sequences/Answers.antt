@@ -26,35 +26,46 @@ pub sequence_body-overflow_sub-depth : goal.sequence_body-overflow_sub-depth
 sequence_body-overflow_sub-depth t c = omega (arith, room c.open-inside.ensures c.has_stopped.ensures c.if-has_stopped.false)
 
 pub sequence_body-simple_type_spec-element-requires : goal.sequence_body-simple_type_spec-element-requires
-sequence_body-simple_type_spec-element-requires t c = let left = room c.open-inside.ensures c.has_stopped.ensures c.if-has_stopped.false in omega (arith, c.requires)
+sequence_body-simple_type_spec-element-requires t c =
+    let left = room c.open-inside.ensures c.has_stopped.ensures c.if-has_stopped.false in omega (arith, c.requires)
 
 pub sequence_body-overflow_sub-depth-2 : goal.sequence_body-overflow_sub-depth-2
 sequence_body-overflow_sub-depth-2 t c = omega (arith, room c.open-inside.ensures c.has_stopped.ensures c.if-has_stopped.false)
 
 pub sequence_body-returns : goal.sequence_body-returns
-sequence_body-returns t c = enclosed c.open-inside.ensures (record { in_any = λ start hs. (c.simple_type_spec-element.ensures.in_any _ _) ▸ (c.sequence_bound-bound.ensures.in_any _ _) }) c.take.ensures
+sequence_body-returns t c =
+    enclosed c.open-inside.ensures (record {
+      in_any = λ start hs. (c.simple_type_spec-element.ensures.in_any _ _) ▸
+          (c.sequence_bound-bound.ensures.in_any _ _);
+    }) c.take.ensures
 
 pub sequence_type-sequence_body-body-requires : goal.sequence_type-sequence_body-body-requires
 sequence_type-sequence_body-body-requires t c = omega (arith, c.requires)
 
 pub sequence_type-returns : goal.sequence_type-returns
 unfolding passes_word
-sequence_type-returns t c = frame (rule "sequence_type") (((c.take-word.ensures.reads _ _).in_any _ _) ▸ (c.sequence_body-body.ensures.in_any _ _) ▸ (c.node.ensures.wraps refl _ _ _ tt))
+sequence_type-returns t c =
+    frame (rule "sequence_type") (((c.take-word.ensures.reads _ _).in_any _ _) ▸ (c.sequence_body-body.ensures.in_any _ _) ▸
+    (c.node.ensures.wraps refl _ _ _ tt))
 
 pub simple_type_spec-template_type_spec-requires : goal.simple_type_spec-template_type_spec-requires
 simple_type_spec-template_type_spec-requires t c = omega (arith, c.requires)
 
 pub simple_type_spec-returns-in-50 : goal.simple_type_spec-returns-in-50
 unfolding passes_word
-simple_type_spec-returns-in-50 t c = passed_on (rule "simple_type_spec") (among templates) c.next_kind-next.ensures c.in-50.is refl tt c.template_type_spec.ensures
+simple_type_spec-returns-in-50 t c =
+    passed_on (rule "simple_type_spec") (among templates) c.next_kind-next.ensures c.in-50.is refl tt c.template_type_spec.ensures
 
 pub simple_type_spec-returns-in-1 : goal.simple_type_spec-returns-in-1
 unfolding passes_word
-simple_type_spec-returns-in-1 t c = passed_on (rule "simple_type_spec") (among names) c.next_kind-next.ensures c.in-1.is refl tt (c.scoped_name.ensures.at_any _)
+simple_type_spec-returns-in-1 t c =
+    passed_on (rule "simple_type_spec") (among names) c.next_kind-next.ensures c.in-1.is refl tt (c.scoped_name.ensures.at_any _)
 
 pub simple_type_spec-returns-in_default : goal.simple_type_spec-returns-in_default
 unfolding passes_word
-simple_type_spec-returns-in_default t c = passed_on (rule "simple_type_spec") (except (names ∷ templates ∷ [])) c.next_kind-next.ensures c.in_default.in_default-own.rest refl tt (c.base_type_spec.ensures.at_any _)
+simple_type_spec-returns-in_default t c =
+    passed_on (rule "simple_type_spec") (except (names ∷ templates ∷ [])) c.next_kind-next.ensures
+    c.in_default.in_default-own.rest refl tt (c.base_type_spec.ensures.at_any _)
 
 pub template_type_spec-sequence_type-requires : goal.template_type_spec-sequence_type-requires
 template_type_spec-sequence_type-requires t c = omega (arith, c.requires)
@@ -64,12 +75,17 @@ template_type_spec-string_type-requires t c = (search rules, c.in-52.is)
 
 pub template_type_spec-returns-in-50 : goal.template_type_spec-returns-in-50
 unfolding passes_word
-template_type_spec-returns-in-50 t c = passed_on (rule "template_type_spec") (among (only "sequence")) c.next_kind-next.ensures c.in-50.is refl tt c.sequence_type.ensures
+template_type_spec-returns-in-50 t c =
+    passed_on (rule "template_type_spec") (among (only "sequence")) c.next_kind-next.ensures c.in-50.is refl tt
+    c.sequence_type.ensures
 
 pub template_type_spec-returns-in-52 : goal.template_type_spec-returns-in-52
 unfolding passes_word
-template_type_spec-returns-in-52 t c = passed_by (rule "template_type_spec") string_rule strings c.next_kind-next.ensures c.in-52.is tt c.string_type.ensures
+template_type_spec-returns-in-52 t c =
+    passed_by (rule "template_type_spec") string_rule strings c.next_kind-next.ensures c.in-52.is tt c.string_type.ensures
 
 pub template_type_spec-returns-in_default : goal.template_type_spec-returns-in_default
 unfolding passes_word
-template_type_spec-returns-in_default t c = passed_on (rule "template_type_spec") (except (strings ∷ only "sequence" ∷ [])) c.next_kind-next.ensures c.in_default.in_default-own.rest refl tt c.fixed_pt_type.ensures
+template_type_spec-returns-in_default t c =
+    passed_on (rule "template_type_spec") (except (strings ∷ only "sequence" ∷ [])) c.next_kind-next.ensures
+    c.in_default.in_default-own.rest refl tt c.fixed_pt_type.ensures

@@ -12,15 +12,12 @@ use Rattle.readers_types.proofs.behind_name.Goals as goal
 pub returns-then-next-eq-OPEN_BRACKET : goal.returns-then-next-eq-OPEN_BRACKET
 unfolding computing
 returns-then-next-eq-OPEN_BRACKET c =
-    let sizes = c.before.before.before.before.before.before.before in let size = sizes.before.before.before.before in
-    let mark = size.before.before in
-    chosen (among (only "[")) mark.next_kind-next.ensures mark.if-next-eq-OPEN_BRACKET.true
-    ((size.fixed_array_size-size.ensures.in_any _ _) ▸ (sizes.further_sizes-sizes.ensures.in_any _ _)
+    chosen (among (only "[")) c.next_kind-next.ensures c.if-next-eq-OPEN_BRACKET.true
+    ((c.fixed_array_size-size.ensures.in_any _ _) ▸ (c.further_sizes-sizes.ensures.in_any _ _)
     ▸ (c.node.ensures.wraps refl _ _ _ tt) ▸ unrecorded tt)
 
 pub returns : goal.returns
 unfolding computing
 returns c =
-    let mark = c.before.before.before.before.before in
-    chosen (except (only "[" ∷ [])) mark.next_kind-next.ensures (tt, mark.if-next-eq-OPEN_BRACKET.false)
+    chosen (except (only "[" ∷ [])) c.next_kind-next.ensures (tt, c.if-next-eq-OPEN_BRACKET.false)
     (c.node-2.ensures.wraps refl _ _ _ tt)

@@ -13,16 +13,14 @@ use Rattle.readers_types.proofs.case_label.Goals as goal
 pub returns-then-next-eq-CASE : goal.returns-then-next-eq-CASE
 unfolding computing
 returns-then-next-eq-CASE c =
-    let label = c.before.before.before.before.before in let value = label.before.before.before in
-    let word = value.before.before in
-    frame_on (rule "case_label") (among (only "case")) word.next_kind-next.ensures word.if-next-eq-CASE.true
-    ((((word.take-word.ensures.reads _ _).in_any _ _) ▸ (value.const_exp-value.ensures.in_any _ _)
-    ▸ ((label.take-label.ensures.reads _ _).in_any _ _)) ▸ (c.node.ensures.wraps refl _ _ _ tt))
+    frame_on (rule "case_label") (among (only "case")) c.next_kind-next.ensures c.if-next-eq-CASE.true
+    ((((c.take-word.ensures.reads _ _).in_any _ _) ▸ (c.const_exp-value.ensures.in_any _ _)
+    ▸ ((c.take-label.ensures.reads _ _).in_any _ _)) ▸ (c.node.ensures.wraps refl _ _ _ tt))
 
 pub returns : goal.returns
 unfolding computing
 returns c =
-    let label = c.before.before.before.before.before in let word = label.before in
-    frame_on (rule "case_label") (except (only "case" ∷ [])) word.next_kind-next.ensures
-    (tt, word.if-next-eq-CASE.false) ((((word.take-word-2.ensures.reads _ _).in_any _ _) ▸ ((label.take-label-2.ensures.reads _ _).in_any _ _))
+    frame_on (rule "case_label") (except (only "case" ∷ [])) c.next_kind-next.ensures
+    (tt, c.if-next-eq-CASE.false) ((((c.take-word-2.ensures.reads _ _).in_any _ _) ▸
+    ((c.take-label-2.ensures.reads _ _).in_any _ _))
     ▸ (c.node-2.ensures.wraps refl _ _ _ tt))

@@ -20,8 +20,7 @@ words = kinds_of ("boolean" ∷ "char" ∷ "fixed" ∷ "octet" ∷ "wchar" ∷ [
 pub returns-in-40 : goal.returns-in-40
 unfolding computing
 returns-in-40 c =
-    let arm = c.before.before.before.before.before in
-    frame_on (rule "const_type") (among numbers) arm.next_kind-next.ensures arm.in-40.is
+    frame_on (rule "const_type") (among numbers) c.next_kind-next.ensures c.in-40.is
     ((c.number_type.ensures.at_any _) ▸ unrecorded tt)
 
 pub one_token-requires : goal.one_token-requires
@@ -31,23 +30,20 @@ one_token-requires c = (search rules, is_kind words _ c.in-25.is tt)
 pub returns-in-25 : goal.returns-in-25
 unfolding passes_word
 returns-in-25 c =
-    let read = c.before.before.before in let arm = read.before.before.before in
-    by_word (rule "const_type") words arm.next_kind-next.ensures arm.in-25.is
-    read.word_rule.ensures tt read.one_token.ensures
+    by_word (rule "const_type") words c.next_kind-next.ensures c.in-25.is
+    c.word_rule.ensures tt c.one_token.ensures
 
 pub returns-in-52 : goal.returns-in-52
 unfolding passes_word
 returns-in-52 c =
-    let arm = c.before.before.before.before.before in
-    passed_by (rule "const_type") string_rule strings arm.next_kind-next.ensures arm.in-52.is tt
+    passed_by (rule "const_type") string_rule strings c.next_kind-next.ensures c.in-52.is tt
     c.string_type.ensures
 
 pub returns-in_default : goal.returns-in_default
 unfolding computing
 returns-in_default c =
-    let arm = c.before.before.before.before.before in
-    passed_on (rule "const_type") (except (strings ∷ words ∷ numbers ∷ [])) arm.next_kind-next.ensures
-    arm.in_default.in_default-own.rest refl tt (c.scoped_name.ensures.at_any _)
+    passed_on (rule "const_type") (except (strings ∷ words ∷ numbers ∷ [])) c.next_kind-next.ensures
+    c.in_default.in_default-own.rest refl tt (c.scoped_name.ensures.at_any _)
 
 pub string_type-requires : goal.string_type-requires
 string_type-requires c = (search rules, c.in-52.is)

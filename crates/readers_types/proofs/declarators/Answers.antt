@@ -13,9 +13,8 @@ use Rattle.readers_types.proofs.declarators.Goals as goal
 pub returns-then-next-eq-COMMA : goal.returns-then-next-eq-COMMA
 unfolding computing
 returns-then-next-eq-COMMA c =
-    let more = c.before.before.before.before.before.before.before in let comma = more.before.before in
-    several_parts refl comma.declarator-first.ensures (among (only ","))
-    comma.next_kind-next.ensures comma.if-next-eq-COMMA.true tt more.further-more.ensures refl c.node.ensures tt
+    several_parts refl c.declarator-first.ensures (among (only ","))
+    c.next_kind-next.ensures c.if-next-eq-COMMA.true tt c.further-more.ensures refl c.node.ensures tt
 
 pub returns : goal.returns
 unfolding computing

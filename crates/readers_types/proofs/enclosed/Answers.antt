@@ -5,6 +5,5 @@ use Rattle.readers_types.proofs.enclosed.Goals as goal
 
 pub returns : goal.returns
 returns c =
-    let constant = c.before.before.before.before in let inside = constant.before in
-    between inside.open-inside.ensures
-    inside.inner.ensures constant.positive_int_const-constant.ensures c.take.ensures
+    between c.open-inside.ensures
+    c.inner.ensures c.positive_int_const-constant.ensures c.take.ensures

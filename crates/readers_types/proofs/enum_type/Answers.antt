@@ -10,7 +10,6 @@ use Rattle.readers_types.proofs.enum_type.Goals as goal
 pub returns : goal.returns
 unfolding computing
 returns c =
-    let body = c.before.before.before.before.before.before.before in let name = body.before.before in
-    frame (rule "enum_type") (((name.take-word.ensures.reads _ _).in_any _ _)
-    ▸ ((name.take-name.ensures.reads _ _).in_any _ _)
-    ▸ (body.enumerators-body.ensures.in_any _ _) ▸ (c.node.ensures.wraps refl _ _ _ tt))
+    frame (rule "enum_type") (((c.take-word.ensures.reads _ _).in_any _ _)
+    ▸ ((c.take-name.ensures.reads _ _).in_any _ _)
+    ▸ (c.enumerators-body.ensures.in_any _ _) ▸ (c.node.ensures.wraps refl _ _ _ tt))

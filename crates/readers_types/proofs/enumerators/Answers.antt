@@ -11,9 +11,8 @@ use Rattle.readers_types.proofs.enumerators.Goals as goal
 pub returns : goal.returns
 unfolding computing
 returns c =
-    let first = c.before.before.before.before.before.before.before.before.before in
-    between first.open-inside.ensures c.inner.ensures
-    ((first.one_token-first.ensures.reads refl refl).at_any _ then c.further-more.ensures) c.take.ensures
+    between c.open-inside.ensures c.inner.ensures
+    ((c.one_token-first.ensures.reads refl refl).at_any _ then c.further-more.ensures) c.take.ensures
 
 pub further-more-requires : goal.further-more-requires
 further-more-requires c = (search rules, inr refl)

@@ -10,6 +10,5 @@ use Rattle.readers_types.proofs.fixed_array_size.Goals as goal
 pub returns : goal.returns
 unfolding computing
 returns c =
-    let made = c.before.before.before in
-    frame (rule "fixed_array_size") ((made.enclosed-size.ensures.in_any _ _)
-    ▸ (made.node.ensures.wraps refl _ _ _ tt))
+    frame (rule "fixed_array_size") ((c.enclosed-size.ensures.in_any _ _)
+    ▸ (c.node.ensures.wraps refl _ _ _ tt))

@@ -6,8 +6,6 @@ use Rattle.readers_types.proofs.fixed_bounds.Goals as goal
 
 pub returns : goal.returns
 returns c =
-    let scale = c.before.before.before.before in let mark = scale.before.before in
-    let digits = mark.before.before.before in let inside = digits.before.before in
-    between inside.open-inside.ensures inside.inner-below.ensures
-    (digits.positive_int_const-digits.ensures then mark.take-comma.ensures.reads _ _ then scale.positive_int_const-scale.ensures)
+    between c.open-inside.ensures c.inner-below.ensures
+    (c.positive_int_const-digits.ensures then c.take-comma.ensures.reads _ _ then c.positive_int_const-scale.ensures)
     c.take.ensures

@@ -10,7 +10,6 @@ use Rattle.readers_types.proofs.fixed_pt_type.Goals as goal
 pub returns : goal.returns
 unfolding computing
 returns c =
-    let bounds = c.before.before.before.before.before.before.before in
-    frame (rule "fixed_pt_type") (((bounds.take-word.ensures.reads _ _).in_any _ _)
-    ▸ (bounds.fixed_bounds-bounds.ensures.in_any _ _)
+    frame (rule "fixed_pt_type") (((c.take-word.ensures.reads _ _).in_any _ _)
+    ▸ (c.fixed_bounds-bounds.ensures.in_any _ _)
     ▸ (c.node.ensures.wraps refl _ _ _ tt))

@@ -9,17 +9,15 @@ use Rattle.readers_types.proofs.further.Goals as goal
 pub loop-comma-smaller : goal.loop-comma-smaller
 unfolding computing
 loop-comma-smaller c =
-    let comma = c.before.before.before.before.before in
-    turn_less (only ",") comma.next_kind.ensures comma.loop-comma-test.true tt
-    (comma.take-comma.ensures.reads _ _ then c.item-items.ensures)
+    turn_less (only ",") c.next_kind.ensures c.loop-comma-test.true tt
+    (c.take-comma.ensures.reads _ _ then c.item-items.ensures)
 
 pub loop-comma-preserved : goal.loop-comma-preserved
 unfolding computing
 loop-comma-preserved c =
-    let comma = c.before.before.before.before.before in
-    turn_again (only ",") comma.next_kind.ensures comma.loop-comma-test.true tt
-    (comma.take-comma.ensures.reads _ _ then c.item-items.ensures) c.item-items.auto.tree
-    comma.loop-comma.invariant
+    turn_again (only ",") c.next_kind.ensures c.loop-comma-test.true tt
+    (c.take-comma.ensures.reads _ _ then c.item-items.ensures) c.item-items.auto.tree
+    c.loop-comma.invariant
 
 pub returns : goal.returns
 unfolding computing

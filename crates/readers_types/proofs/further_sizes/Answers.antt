@@ -11,11 +11,13 @@ loop-tree-init c = no_turn
 
 pub loop-tree-smaller : goal.loop-tree-smaller
 unfolding computing
-loop-tree-smaller c = let turn = c.before.before.before.before.before in turn_less (only "[") turn.next_kind.ensures turn.loop-tree-test.true tt c.fixed_array_size-sizes.ensures
+loop-tree-smaller c = turn_less (only "[") c.next_kind.ensures c.loop-tree-test.true tt c.fixed_array_size-sizes.ensures
 
 pub loop-tree-preserved : goal.loop-tree-preserved
 unfolding computing
-loop-tree-preserved c = let turn = c.before.before.before.before.before in turn_again (only "[") turn.next_kind.ensures turn.loop-tree-test.true tt c.fixed_array_size-sizes.ensures c.fixed_array_size-sizes.auto.tree turn.loop-tree.invariant
+loop-tree-preserved c =
+    turn_again (only "[") c.next_kind.ensures c.loop-tree-test.true tt c.fixed_array_size-sizes.ensures
+    c.fixed_array_size-sizes.auto.tree c.loop-tree.invariant
 
 pub returns : goal.returns
 unfolding computing

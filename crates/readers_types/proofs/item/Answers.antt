@@ -12,7 +12,6 @@ returns-in-50 c = rw c.in-50.is c.declarator.ensures
 pub returns-in_default : goal.returns-in_default
 unfolding computing
 returns-in_default c =
-    let start = c.before.before.before.before.before.before.before.before in
-    let other : start.args.rule ≡ rule "enumerator" =
-    ⊎_elim (λ same. absurd (c.in_default.in_default-own.rest.1 same)) (λ same. same) start.requires.1 in
+    let other : c.args.rule ≡ rule "enumerator" =
+    ⊎_elim (λ same. absurd (c.in_default.in_default-own.rest.1 same)) (λ same. same) c.requires.1 in
     rw other ((c.one_token.ensures.reads refl refl).at_any _)

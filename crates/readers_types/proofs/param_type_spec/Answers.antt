@@ -14,22 +14,19 @@ use Rattle.readers_types.proofs.param_type_spec.Goals as goal
 pub returns-in-52 : goal.returns-in-52
 unfolding passes_word
 returns-in-52 c =
-    let arm = c.before.before.before.before.before in
-    passed_by (rule "param_type_spec") string_rule strings arm.next_kind-next.ensures arm.in-52.is tt
+    passed_by (rule "param_type_spec") string_rule strings c.next_kind-next.ensures c.in-52.is tt
     c.string_type.ensures
 
 pub returns-in-1 : goal.returns-in-1
 unfolding computing
 returns-in-1 c =
-    let arm = c.before.before.before.before.before in
-    passed_on (rule "param_type_spec") (among names) arm.next_kind-next.ensures arm.in-1.is refl tt
+    passed_on (rule "param_type_spec") (among names) c.next_kind-next.ensures c.in-1.is refl tt
     (c.scoped_name.ensures.at_any _)
 
 pub returns-in_default : goal.returns-in_default
 unfolding computing
 returns-in_default c =
-    let arm = c.before.before.before.before.before in
-    passed_on (rule "param_type_spec") (except (names ∷ strings ∷ [])) arm.next_kind-next.ensures arm.in_default.in_default-own.rest
+    passed_on (rule "param_type_spec") (except (names ∷ strings ∷ [])) c.next_kind-next.ensures c.in_default.in_default-own.rest
     refl tt (c.base_type_spec.ensures.at_any _)
 
 pub string_type-requires : goal.string_type-requires

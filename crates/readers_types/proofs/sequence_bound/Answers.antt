@@ -11,9 +11,9 @@ use Rattle.readers_types.proofs.sequence_bound.Goals as goal
 pub returns-then-next-eq-COMMA : goal.returns-then-next-eq-COMMA
 unfolding computing
 returns-then-next-eq-COMMA c =
-    let mark = c.before.before.before.before.before in record {
-      in_any = λ start hs. chosen (among (only ",")) mark.next_kind-next.ensures mark.if-next-eq-COMMA.true
-          (((mark.take-comma.ensures.reads _ _).in_any _ _) ▸ (c.positive_int_const.ensures.in_any _ _));
+    record {
+      in_any = λ start hs. chosen (among (only ",")) c.next_kind-next.ensures c.if-next-eq-COMMA.true
+          (((c.take-comma.ensures.reads _ _).in_any _ _) ▸ (c.positive_int_const.ensures.in_any _ _));
     }
 
 pub returns : goal.returns

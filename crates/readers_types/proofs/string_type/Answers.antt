@@ -19,18 +19,16 @@ take-word-requires c = (search rules, is_kind strings _ c.requires.1 tt)
 pub returns-then-next-eq-OPEN_ANGLE : goal.returns-then-next-eq-OPEN_ANGLE
 unfolding plans_of
 returns-then-next-eq-OPEN_ANGLE c =
-    let mark = c.before.before.before.before.before.before.before.before.before in let word = mark.before.before in
-    frame_by _ (plan_of string_rule string_plan strings _ word.requires.1 tt)
-    (((word.take-word.ensures.reads _ _).in_any _ _)
-    ▸ chosen (among (only "<")) mark.next_kind-next.ensures mark.if-next-eq-OPEN_ANGLE.true
+    frame_by _ (plan_of string_rule string_plan strings _ c.requires.1 tt)
+    (((c.take-word.ensures.reads _ _).in_any _ _)
+    ▸ chosen (among (only "<")) c.next_kind-next.ensures c.if-next-eq-OPEN_ANGLE.true
     (c.enclosed-bound.ensures.in_any _ _)
-    ▸ (c.node.ensures.wraps (sym word.string_rule-rule.ensures) _ _ _ tt))
+    ▸ (c.node.ensures.wraps (sym c.string_rule-rule.ensures) _ _ _ tt))
 
 pub returns : goal.returns
 unfolding plans_of
 returns c =
-    let mark = c.before.before.before.before.before in let word = mark.before.before in
-    frame_by _ (plan_of string_rule string_plan strings _ word.requires.1 tt)
-    (((word.take-word.ensures.reads _ _).in_any _ _)
-    ▸ chosen (except (only "<" ∷ [])) mark.next_kind-next.ensures (tt, mark.if-next-eq-OPEN_ANGLE.false) skipped
-    ▸ (c.node-2.ensures.wraps (sym word.string_rule-rule.ensures) _ _ _ tt))
+    frame_by _ (plan_of string_rule string_plan strings _ c.requires.1 tt)
+    (((c.take-word.ensures.reads _ _).in_any _ _)
+    ▸ chosen (except (only "<" ∷ [])) c.next_kind-next.ensures (tt, c.if-next-eq-OPEN_ANGLE.false) skipped
+    ▸ (c.node-2.ensures.wraps (sym c.string_rule-rule.ensures) _ _ _ tt))

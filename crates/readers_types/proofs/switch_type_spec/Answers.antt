@@ -21,8 +21,7 @@ words = kinds_of ("boolean" ∷ "char" ∷ [])
 pub returns-in-40 : goal.returns-in-40
 unfolding computing
 returns-in-40 c =
-    let arm = c.before.before.before.before.before in
-    passed_on (rule "switch_type_spec") (among integers) arm.next_kind-next.ensures arm.in-40.is refl tt
+    passed_on (rule "switch_type_spec") (among integers) c.next_kind-next.ensures c.in-40.is refl tt
     (c.integer_type.ensures.at_any _)
 
 pub one_token-requires : goal.one_token-requires
@@ -32,20 +31,17 @@ one_token-requires c = (search rules, is_kind words _ c.in-25.is tt)
 pub returns-in-25 : goal.returns-in-25
 unfolding passes_word
 returns-in-25 c =
-    let read = c.before.before.before in let arm = read.before.before.before in
-    by_word (rule "switch_type_spec") words arm.next_kind-next.ensures arm.in-25.is
-    read.word_rule.ensures tt read.one_token.ensures
+    by_word (rule "switch_type_spec") words c.next_kind-next.ensures c.in-25.is
+    c.word_rule.ensures tt c.one_token.ensures
 
 pub returns-in-31 : goal.returns-in-31
 unfolding computing
 returns-in-31 c =
-    let arm = c.before.before.before.before.before in
-    passed_on (rule "switch_type_spec") (among (only "enum")) arm.next_kind-next.ensures arm.in-31.is refl tt
+    passed_on (rule "switch_type_spec") (among (only "enum")) c.next_kind-next.ensures c.in-31.is refl tt
     c.enum_type.ensures
 
 pub returns-in_default : goal.returns-in_default
 unfolding computing
 returns-in_default c =
-    let arm = c.before.before.before.before.before in
-    passed_on (rule "switch_type_spec") (except (only "enum" ∷ words ∷ integers ∷ [])) arm.next_kind-next.ensures
-    arm.in_default.in_default-own.rest refl tt (c.scoped_name.ensures.at_any _)
+    passed_on (rule "switch_type_spec") (except (only "enum" ∷ words ∷ integers ∷ [])) c.next_kind-next.ensures
+    c.in_default.in_default-own.rest refl tt (c.scoped_name.ensures.at_any _)
