@@ -8,11 +8,11 @@ use Rattle.numbers.proofs.followed.Goals as goal
 
 pub returns-then-is_in : goal.returns-then-is_in
 unfolding followed
-returns-then-is_in c = let s = c.before.before.before.before in rw (seen _ s.if-size-bs.true wordly c.is_in.ensures c.if-is_in.true)
+returns-then-is_in c = rw (seen c.args.bs.now c.if-size-bs.true wordly c.is_in.ensures c.if-is_in.true)
 
 pub returns-else-is_in : goal.returns-else-is_in
 unfolding followed
-returns-else-is_in c = let s = c.before.before.before.before in rw (seen _ s.if-size-bs.true wordly c.is_in.ensures c.if-is_in.false)
+returns-else-is_in c = rw (seen c.args.bs.now c.if-size-bs.true wordly c.is_in.ensures c.if-is_in.false)
 
 pub returns-else-size-bs : goal.returns-else-size-bs
 unfolding followed
