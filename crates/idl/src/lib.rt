@@ -1,4 +1,6 @@
 // The library as a host calls it: plain numbers and lent slices.
+#![tactic(auto)]
+
 ghost use Rattle.std.specs.Prelude.{◌≡◌, length};
 ghost use Rattle.grammar.specs.Idl.{idl};
 ghost use Rattle.meaning.specs.Calls.{Answered, TreeAnswered};
