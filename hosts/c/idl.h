@@ -25,8 +25,8 @@ extern "C" {
 #define IDL_TEXT_CEILING 1048576
 #define IDL_DEPTH_CEILING 200
 
-/* A call needs at most 164 KB of stack at depth 200, where a KB is 1,024 bytes, and less at smaller settings. */
-#define IDL_STACK_KB 164
+/* A call needs at most 141 KB of stack at depth 200, where a KB is 1,024 bytes, and less at smaller settings. */
+#define IDL_STACK_KB 141
 
 #define IDL_TOKEN_NUMBERS 3
 #define IDL_TREE_NUMBERS 4

@@ -44,7 +44,7 @@ pub const TEXT_CEILING: usize = 1_048_576;
 /// The largest depth setting; the smallest is 1.
 pub const DEPTH_CEILING: u32 = 200;
 /// The stack that a call needs at most at that setting, in KB of 1,024 bytes.
-pub const STACK_KB: usize = 164;
+pub const STACK_KB: usize = 141;
 /// The numbers of a token record.
 pub const TOKEN_NUMBERS: usize = 3;
 /// The numbers of a tree record.
