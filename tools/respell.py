@@ -6,7 +6,7 @@ usage: python3 tools/respell.py [--check]   at the top, once, right after the ki
 What turns: whole words with a dash between letters or digits, in .antt files, in the clauses and `ghost use` lines of .rt files,
 in the code spans of .md files and in the texts of must-fail edits. What stays: names that a file imports from the kit's library,
 names that the checker makes (a goal, a step, a loop), strings, and the prose of comments but for words that the same file's code has.
-It stops where two names of one file would fall together.
+It says where two names of one file would fall together.
 """
 import os
 import re

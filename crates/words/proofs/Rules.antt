@@ -277,7 +277,7 @@ distinct = tt
 pub distinct_at : {i j : ℕ} → i < row_count → j < row_count → eqb j i ≡ same_but_case (spelling j) (spelling i)
 distinct_at {i} {j} h l = agreed _ _ (at_row (apart j) (at_row (λ k. every (apart k) 0 row_count) distinct l) h)
 
--- a row's number tells whether the data_only edition has its keyword, too: what request A13 will rest on
+-- a row's number tells whether the data-only edition has its keyword, too: what request A13 will rest on
 abbrev edition_right : ℕ → Bool
 edition_right i = agree (ltb i data_only_rows) (data_only (spelling i))
 

@@ -13,12 +13,12 @@ unfoldable pub filter : (List ℕ → Bool) → List String → List String
 filter test [] = []
 filter test (v ∷ vs) = cond (test (bytes v)) (v ∷ filter test vs) (filter test vs)
 
--- a keyword of the data_only edition
+-- a keyword of the data-only edition
 unfoldable pub data_only : List ℕ → Bool
 unfolding data_only_keywords
 data_only w = ltb 0 (search_from first_keyword same w data_only_keywords)
 
--- the keywords in the order of the code's table: first those that the data_only edition has, too, then the others
+-- the keywords in the order of the code's table: first those that the data-only edition has, too, then the others
 unfoldable pub by_edition : List String
 unfolding filter data_only
 by_edition = filter data_only keywords ++ filter (λ w. not (data_only w)) keywords

@@ -11,7 +11,7 @@ use Rattle.words.specs.Search.{filter, data_only, by_edition, near, near_to}
 abbrev pub row_count : ℕ
 row_count = length keywords
 
--- the first of them, so many, are those of the data_only edition
+-- the first of them, so many, are those of the data-only edition
 unfoldable pub data_only_rows : ℕ
 unfolding filter data_only
 data_only_rows = length (filter data_only keywords)

@@ -21,7 +21,7 @@ returns-then-tokens-count c =
 pub returns-then-text-count : goal.returns-then-text-count
 returns-then-text-count c =
     too_short c.args.tokens.now c.args.count c.args.text
-    c.args.tree.now c.args.depth idl c.if-text-count.true c.outside_limits-then-text-count.ensures
+    c.args.tree.now c.args.depth idl (omega arith) c.outside_limits-then-text-count.ensures
 
 pub slice_bounds-list-end : goal.slice_bounds-list-end
 slice_bounds-list-end c = sym (length-take-le _ _ (omega arith))
@@ -29,14 +29,14 @@ slice_bounds-list-end c = sym (length-take-le _ _ (omega arith))
 pub specification-end-requires : goal.specification-end-requires
 specification-end-requires c =
     list_short c.args.tokens.now c.args.count c.args.text c.args.tree.now c.args.depth c.new-limits.ensures
-    c.in-Good.is c.if-tokens-count.false c.if-text-count.false
+    c.in-Good.is c.if-tokens-count.false (omega arith)
 
 pub overflow_cast-count : goal.overflow_cast-count
 overflow_cast-count c =
     omega (
       arith,
       text_small c.args.tokens.now c.args.count c.args.text c.args.tree.now c.args.depth c.new-limits.ensures
-          c.in-Good.is c.if-tokens-count.false c.if-text-count.false,
+          c.in-Good.is c.if-tokens-count.false (omega arith),
     )
 
 pub overflow_cast-text : goal.overflow_cast-text
@@ -44,12 +44,12 @@ overflow_cast-text c =
     omega (
       arith,
       text_small c.args.tokens.now c.args.count c.args.text c.args.tree.now c.args.depth c.new-limits.ensures
-          c.in-Good.is c.if-tokens-count.false c.if-text-count.false,
+          c.in-Good.is c.if-tokens-count.false (omega arith),
     )
 
 pub returns : goal.returns
 unfolding idl
 returns c =
     answered c.args.tokens.now c.args.count c.args.text c.args.tree.now c.args.depth c.new-limits.ensures c.in-Good.is
-    c.if-tokens-count.false c.if-text-count.false one (λ r. refl) c.specification-end.auto.tree c.specification-end.ensures
+    c.if-tokens-count.false (omega arith) one (λ r. refl) c.specification-end.auto.tree c.specification-end.ensures
     c.conclude.ensures.reply c.conclude.ensures.table
