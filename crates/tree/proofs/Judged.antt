@@ -8,7 +8,6 @@ use native.Mathlib.Omega.{arith}
 use borrow.Author.Tests.{lt-ltb, le-ltb, eq-eqb, ne_eqb}
 use lib.Dec.{T, eqb, ltb, ltb→lt, nltb→le}
 use lib.ListN.{length, take, length-map}
-use Rattle.grammar.specs.Derivation as grammar
 use Rattle.grammar.specs.Derivation.{Derivation}
 use Rattle.grammar.specs.Forest.{Forest, end}
 use Rattle.grammar.specs.Record.{TreeRecord, tree_record, records, shape}
@@ -16,7 +15,7 @@ use Rattle.grammar.specs.Rule.{Edition}
 use Rattle.grammar.specs.Sets.{elem}
 use Rattle.limits.specs.Limits.{text_ceiling}
 use Rattle.prediction.specs.plans.Plan.{call}
-use Rattle.prediction.specs.Interpreter.{Outcome, deep, Runs}
+use Rattle.prediction.specs.Interpreter.{Outcome, Runs}
 use Rattle.prediction.proofs.theorems.Theorems.{records_bounded}
 use Rattle.prediction.proofs.theorems.Verdict.{Says, says_derived, says_more, says_blamed, says_deep, says}
 use Rattle.tables.specs.Tables.{capacity, store, zeroed, Records, token_width, node_width}
