@@ -10,40 +10,40 @@ use Rattle.prediction.specs.Interpreter.{run_inside, run_group, run_unclosed, ru
 use Rattle.prediction.specs.sharing.Renaming.{Inside, renamed}
 use Rattle.prediction.specs.validator.Typing.{Table}
 use Rattle.readers_core.specs.Course.{Course, table_in}
-use Rattle.readers_core.specs.Reading.{kind_at, stop, view, State, several, ends_blame, ends_deep, From}
+use Rattle.readers_core.specs.Reading.{Reading, kind_at, halted, State, several, ends_blame, ends_deep, From}
 use Rattle.readers_core.specs.Reading.{Reads, Takes}
 use Rattle.readers_core.specs.Reading.{Opens, opens_stopped, opens_blamed, opens_deep, opens_inside}
 use Rattle.readers_core.proofs.Holding.{held_token}
 use Rattle.readers_core.proofs.Sequence.{◌▸◌, after, does_stays, stopped_on}
 use Rattle.readers_core.proofs.Sharing.{at_home}
-use Rattle.readers_core.proofs.Views.{going_if, stopped_if}
+use Rattle.readers_core.proofs.Halting.{going_if, stopped_if}
 use Rattle.readers_core.proofs.Frames.{going}
 
 -- where the mark is read, a level was left
-pub level : {ks : List ℕ} {d k s s' : ℕ} → Opens ks d k s s' → (view s').answer ≡ 0 → 0 < d
+pub level : {ks : List ℕ} {d k : ℕ} {s s' : Reading} → Opens ks d k s s' → s'.answer ≡ 0 → 0 < d
 level (opens_stopped n e e') z = absurd (n (sym e ∙ z))
 level (opens_blamed u n e e') z = absurd (omega arith)
 level (opens_deep u n h e e') z = absurd (omega arith)
 level (opens_inside u n h e a c) z = h
 
 -- the group stops at its opening mark
-pub shut_out : {R : Course} {k c : ℕ} {p : Plan} {ks : List ℕ} {d start s s' : ℕ} {hs w : List ℕ} → Opens ks d k s s' →
-    ((view s').answer ≡ 0 → ⊥) → From R ks d start hs (group k p c) (s, w) (s', w)
+pub shut_out : {R : Course} {k c : ℕ} {p : Plan} {ks : List ℕ} {d : ℕ} {start s s' : Reading} {hs w : List ℕ} → Opens ks d k s s' →
+    (s'.answer ≡ 0 → ⊥) → From R ks d start hs (group k p c) (s, w) (s', w)
 unfolding renamed
 shut_out (opens_stopped n e e') m = record { does = λ _ _ b _ _. does_stays n (record { answers = e; places = e' }) }
 shut_out {s = s} (opens_blamed z n e e') m = record {
   does = λ _ _ b _ _. record {
     stays = λ u. absurd (u z);
-    runs = λ y f v. record { outcome = blame (view s).at; run = run_shut n; ends = ends_blame e e' };
+    runs = λ y f v. record { outcome = blame s.at; run = run_shut n; ends = ends_blame e e' };
   };
 }
 shut_out {k = k} {c = c} {p = p} {ks = ks} {s = s} (opens_deep z n h e e') _ = record {
   does = λ {C} m _ b _ _. record {
     stays = λ u. absurd (u z);
     runs = λ y f v. record {
-      outcome = deep (view s).at;
+      outcome = deep s.at;
       run =
-          subst (λ (l : ℕ). Runs (table_in C) (kind_at ks) l (group k (renamed m.number p) c) (view s).at f (deep (view s).at))
+          subst (λ (l : ℕ). Runs (table_in C) (kind_at ks) l (group k (renamed m.number p) c) s.at f (deep s.at))
           (sym h) (run_deep n);
       ends = ends_deep e e';
     };
@@ -58,8 +58,8 @@ close_group n (run_seq r (run_miss u)) = run_unclosed n r u
 close_group n (run_seq_stop r u) = run_inside n r u
 
 -- the body and the closing mark, at one level less
-pub grouped : {R : Course} {k c : ℕ} {p : Plan} {ks : List ℕ} {d start s s1 : ℕ} {hs w : List ℕ} {s2 : State} →
-    Opens ks d k s s1 → (view s1).answer ≡ 0 → From R ks (d - 1) start (2 ∷ []) (seq p (token c)) (s1, w) s2 →
+pub grouped : {R : Course} {k c : ℕ} {p : Plan} {ks : List ℕ} {d : ℕ} {start s s1 : Reading} {hs w : List ℕ} {s2 : State} →
+    Opens ks d k s s1 → s1.answer ≡ 0 → From R ks (d - 1) start (2 ∷ []) (seq p (token c)) (s1, w) s2 →
     From R ks d start hs (group k p c) (s, w) s2
 unfolding stopped shape elem Inside renamed
 grouped (opens_stopped n e e') m x = absurd (n (sym e ∙ m))
@@ -73,40 +73,40 @@ grouped {R} {k} {c} {p} {ks} {d} {start} {s} {s1} {hs} {w} {s2} (opens_inside z 
           outcome = y.outcome;
           run = deeper (close_group n
               (subst (λ (i : ℕ). Runs (table_in C) (kind_at ks) (d - 1) (seq (renamed m.number p) (token c)) i (leaf f k)
-              y.outcome) (a ∙ add-one (view s).at) y.run));
-          ends = after (held_token k b (view s, w) (view s1, w) f a e refl) y.ends;
+              y.outcome) (a ∙ add-one s.at) y.run));
+          ends = after (held_token k b (s, w) (s1, w) f a e refl) y.ends;
         };
   };
 }
   where
     deeper : {t : Table} {b : Plan} {f : Forest} {o : Outcome} →
-        Runs t (kind_at ks) (suc (d - 1)) b (view s).at f o → Runs t (kind_at ks) d b (view s).at f o
-    deeper {t} {b} {f} {o} r = subst (λ (l : ℕ). Runs t (kind_at ks) l b (view s).at f o) (omega arith) r
+        Runs t (kind_at ks) (suc (d - 1)) b s.at f o → Runs t (kind_at ks) d b s.at f o
+    deeper {t} {b} {f} {o} r = subst (λ (l : ℕ). Runs t (kind_at ks) l b s.at f o) (omega arith) r
 
 -- as readers are put together: the opening mark, the body at one level less, the closing mark
-module _ {R : Course} {k c : ℕ} {p : Plan} {ks : List ℕ} {d s t : ℕ} {w : List ℕ} (o : Opens ks d k s t) where
-  pub enclosed : {u v : ℕ} {w' : List ℕ} → Reads R ks (d - 1) p (t, w) (u, w') → Takes ks (token c) u v →
+module _ {R : Course} {k c : ℕ} {p : Plan} {ks : List ℕ} {d : ℕ} {s t : Reading} {w : List ℕ} (o : Opens ks d k s t) where
+  pub enclosed : {u v : Reading} {w' : List ℕ} → Reads R ks (d - 1) p (t, w) (u, w') → Takes ks (token c) u v →
       Reads R ks d (group k p c) (s, w) (v, w')
-  enclosed {u} {v} {w'} body mark = record { in_any = λ start hs. go start hs (going (view t).answer) }
+  enclosed {u} {v} {w'} body mark = record { in_any = λ start hs. go start hs (going t.answer) }
     where
-      rest : (start : ℕ) → From R ks (d - 1) start several (seq p (token c)) (t, w) (v, w')
+      rest : (start : Reading) → From R ks (d - 1) start several (seq p (token c)) (t, w) (v, w')
       rest start = body.in_any start several ▸ (mark.reads (d - 1) w').in_any start _
 
-      go : (start : ℕ) (hs : List ℕ) → ((view t).answer ≡ 0) ⊎ ((view t).answer ≡ 0 → ⊥) →
+      go : (start : Reading) (hs : List ℕ) → (t.answer ≡ 0) ⊎ (t.answer ≡ 0 → ⊥) →
           From R ks d start hs (group k p c) (s, w) (v, w')
       go start hs (inl z) = grouped o z (rest start)
-      go start hs (inr n) = stopped_on n ((at_home (rest start) (view start, []) refl refl).stays n) (shut_out o n)
+      go start hs (inr n) = stopped_on n ((at_home (rest start) (start, []) refl refl).stays n) (shut_out o n)
 
   -- the same, where the levels left are told by another number
-  pub between : {l u v : ℕ} {w' : List ℕ} → l ≡ d - 1 → Reads R ks l p (t, w) (u, w') → Takes ks (token c) u v →
+  pub between : {l : ℕ} {u v : Reading} {w' : List ℕ} → l ≡ d - 1 → Reads R ks l p (t, w) (u, w') → Takes ks (token c) u v →
       Reads R ks d (group k p c) (s, w) (v, w')
   between {u = u} {w' = w'} e body = enclosed (subst (λ (n : ℕ). Reads R ks n p (t, w) (u, w')) e body)
 
   -- with a test behind the mark, the group stops at it
-  module _ {x : Bool} (e : x ≡ leb stop t) where
+  module _ {x : Bool} (e : x ≡ halted t) where
     pub shut : x ≡ true → Reads R ks d (group k p c) (s, w) (t, w)
     shut h = record { in_any = λ start hs. shut_out o (stopped_if t e h) }
 
 -- a level is left where the test behind the mark does not tell a stop
-pub room : {ks : List ℕ} {d k s t : ℕ} {x : Bool} → Opens ks d k s t → x ≡ leb stop t → x ≡ false → 0 < d
+pub room : {ks : List ℕ} {d k : ℕ} {s t : Reading} {x : Bool} → Opens ks d k s t → x ≡ halted t → x ≡ false → 0 < d
 room {t = t} o e h = level o (going_if t e h)

@@ -8,7 +8,7 @@ use Rattle.grammar.proofs.Forest.{width_join}
 use Rattle.grammar.specs.Record.{TreeRecord, tree_record, shape, recorded, with_parent, records}
 use Rattle.grammar.proofs.Record.{records_join}
 use Rattle.readers_core.specs.Course.{Course, coded, noted}
-use Rattle.readers_core.specs.Reading.{ceiling, counted, write, writes, Seen, Held}
+use Rattle.readers_core.specs.Reading.{ceiling, counted, write, writes, State, Held}
 use Rattle.readers_core.proofs.Storing.{writes_append, write_past, writes_counted}
 
 written : {w w' : List ℕ} {n n' : ℕ} {x x' : TreeRecord} → w ≡ w' → n ≡ n' → x ≡ x' →
@@ -47,12 +47,12 @@ module _ (C : Course) where
 
 module _ {C : Course} where
   -- a frame that has read nothing
-  pub held_none : (s : Seen) → s.0.count ≤ ceiling → Held C s end s
+  pub held_none : (s : State) → s.0.count ≤ ceiling → Held C s end s
   unfolding width records writes noted
   held_none s l = record { at_is = sym (add-zero s.0.at); count_is = omega arith; table_is = refl }
 
   -- a token more
-  pub held_token : (k : ℕ) (b s s' : Seen) (f : Forest) → s'.0.at ≡ s.0.at + 1 → s'.0.count ≡ s.0.count →
+  pub held_token : (k : ℕ) (b s s' : State) (f : Forest) → s'.0.at ≡ s.0.at + 1 → s'.0.count ≡ s.0.count →
       s'.1 ≡ s.1 → Held C b f s → Held C b (leaf f k) s'
   unfolding width records noted
   held_token k b s s' f a n w h = record {
@@ -61,7 +61,7 @@ module _ {C : Course} where
     table_is = w ∙ h.table_is;
   }
 
-  module _ (r : ℕ) (b s : Seen) (f : Forest) (h : Held C b f s) where
+  module _ (r : ℕ) (b s : State) (f : Forest) (h : Held C b f s) where
     children : List TreeRecord
     children = noted C b.0.at f
 
@@ -89,7 +89,7 @@ module _ {C : Course} where
         }
 
     -- the frame becomes one node, and leaves a record
-    pub held_kept : (s' : Seen) → recorded C.edition r (shape f) ≡ true → s.0.count < ceiling → s'.0.at ≡ s.0.at →
+    pub held_kept : (s' : State) → recorded C.edition r (shape f) ≡ true → s.0.count < ceiling → s'.0.at ≡ s.0.at →
         s'.0.count ≡ s.0.count + 1 →
         s'.1 ≡ write s.1 s.0.count (tree_record (C.code r) b.0.at s.0.at (s.0.count + 1 - b.0.count)) →
         Held C b (node end r f) s'
@@ -123,7 +123,7 @@ module _ {C : Course} where
         }
 
   -- a frame's forest goes behind that of the frame which called it
-  pub held_call : (b s t : Seen) (f g : Forest) → Held C b f s → Held C s g t → Held C b (join f g) t
+  pub held_call : (b s t : State) (f g : Forest) → Held C b f s → Held C s g t → Held C b (join f g) t
   held_call b s t f g h k = record {
     at_is = let x = h.at_is in let y = k.at_is in let z = width_join f g in omega arith;
     count_is =

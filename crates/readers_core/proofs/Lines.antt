@@ -7,7 +7,7 @@ use Rattle.prediction.specs.Interpreter.{Outcome, stopped, Runs, run_seq, run_se
 use Rattle.prediction.specs.sharing.Renaming.{Inside, renamed}
 use Rattle.prediction.specs.validator.Typing.{Table}
 use Rattle.readers_core.specs.Course.{Course}
-use Rattle.readers_core.specs.Reading.{State, From}
+use Rattle.readers_core.specs.Reading.{Reading, State, From}
 use Rattle.readers_core.proofs.Shapes.{leaves}
 use Rattle.readers_core.proofs.Sequence.{◌▸◌, read_as}
 
@@ -49,7 +49,7 @@ inside_append S skip e u = u
 inside_append S (many a) e u = u
 
 infixr 5 ◌▸▸◌
-pub ◌▸▸◌ : {R : Course} {ks : List ℕ} {d start : ℕ} {hs : List ℕ} {p e : Plan} {s s' s'' : State} → From R ks d start hs p s s' →
+pub ◌▸▸◌ : {R : Course} {ks : List ℕ} {d : ℕ} {start : Reading} {hs : List ℕ} {p e : Plan} {s s' s'' : State} → From R ks d start hs p s s' →
     From R ks d start (leaves p hs) e s' s'' → From R ks d start hs (append p e) s s''
 unfolding Inside renamed
 ◌▸▸◌ {p = p} {e = e} x y = read_as (λ C m u. (inside_append m.rule p e u, λ z f o. run_append m.number p e)) (x ▸ y)

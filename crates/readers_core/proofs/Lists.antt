@@ -3,7 +3,7 @@
 use Rattle.std.proofs.Common.{◌≡◌, ℕ, Bool, true, false, T, List, sym, refl, subst}
 use Rattle.prediction.specs.plans.Plan.{Plan, call, many, seq, skip, wrap}
 use Rattle.readers_core.specs.Course.{Course, table_in}
-use Rattle.readers_core.specs.Reading.{ahead, From, Reads, Closes, all_recorded, none_recorded, nothing}
+use Rattle.readers_core.specs.Reading.{Reading, ahead, From, Reads, Closes, all_recorded, none_recorded, nothing}
 use Rattle.readers_core.proofs.Choosing.{Known, Knows, choose, goes_on, is_over, pick}
 use Rattle.readers_core.proofs.Frames.{chosen, frame_by}
 use Rattle.readers_core.proofs.Repetition.{once_at_least}
@@ -22,9 +22,9 @@ picked_over true y a b c n u = absurd (n tt)
 picked_over false true a b c n u = refl
 picked_over false false a b c n u = absurd u
 
-module _ {R : Course} {ks : List ℕ} {d n x s t : ℕ} {a b : Plan} {w v : List ℕ} (plan_is : (table_in R).plan n ≡ seq a (seq (many b) (wrap n)))
+module _ {R : Course} {ks : List ℕ} {d n x : ℕ} {s t : Reading} {a b : Plan} {w v : List ℕ} (plan_is : (table_in R).plan n ≡ seq a (seq (many b) (wrap n)))
     (first : Reads R ks d a (s, w) (t, v)) (k : Known) (e : x ≡ ahead ks t) (h : Knows k x) where
-  pub several_parts : T (goes_on (table_in R) k b) → {u r : ℕ} {w' w'' : List ℕ} → Reads R ks d (many b) (t, v) (u, w') →
+  pub several_parts : T (goes_on (table_in R) k b) → {u r : Reading} {w' w'' : List ℕ} → Reads R ks d (many b) (t, v) (u, w') →
       R.code n ≡ n → Closes n s (u, w') (r, w'') → T (all_recorded R n (leaves (seq b (many b)) (leaves a nothing))) →
       Reads R ks d (call n) (s, w) (r, w'')
   unfolding choose

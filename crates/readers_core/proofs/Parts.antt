@@ -3,7 +3,7 @@
 use Rattle.std.proofs.Common.{◌≡◌, ℕ, List}
 use Rattle.prediction.specs.plans.Plan.{Plan, token, seq, skip}
 use Rattle.readers_core.specs.Course.{Course, table_in}
-use Rattle.readers_core.specs.Reading.{State, From, Reads, Takes, Within, ahead, several}
+use Rattle.readers_core.specs.Reading.{Reading, State, From, Reads, Takes, Within, ahead, several}
 use Rattle.readers_core.proofs.Choosing.{Known, Knows, choose}
 use Rattle.readers_core.proofs.Frames.{chosen}
 use Rattle.readers_core.proofs.Sequence.{◌▸◌, skipped}
@@ -25,7 +25,7 @@ module _ {R : Course} {ks : List ℕ} {d : ℕ} where
       Reads R ks d (choose (table_in R) k p) s s' → Reads R ks d p s s'
   picked k e h y = record { in_any = λ start hs. chosen k e h (y.in_any start hs) }
 
-  module _ {start : ℕ} where
+  module _ {start : Reading} where
     -- the same in one frame, for a part that reads in any and for one that reads there
     pub picked_here : {x : ℕ} {p : Plan} {s s' : State} (k : Known) → x ≡ ahead ks s.0 → Knows k x →
         Within R ks d start (choose (table_in R) k p) s s' → Within R ks d start p s s'
@@ -35,12 +35,12 @@ module _ {R : Course} {ks : List ℕ} {d : ℕ} where
     here y = record { of_any = λ hs. y.in_any start hs }
 
     -- a keyword and what stands behind it; a keyword, a name and what stands behind the name
-    pub behind : {k : ℕ} {rest : Plan} {s t : ℕ} {w : List ℕ} {s' : State} → Takes ks (token k) s t →
+    pub behind : {k : ℕ} {rest : Plan} {s t : Reading} {w : List ℕ} {s' : State} → Takes ks (token k) s t →
         From R ks d start several rest (t, w) s' → Within R ks d start (seq (token k) rest) (s, w) s'
     unfolding leaves
     behind x y = record { of_any = λ hs. (x.reads _ _).in_any _ _ ▸ y }
 
-    pub named : {k k' : ℕ} {rest : Plan} {s t u : ℕ} {w : List ℕ} {s' : State} → Takes ks (token k) s t →
+    pub named : {k k' : ℕ} {rest : Plan} {s t u : Reading} {w : List ℕ} {s' : State} → Takes ks (token k) s t →
         Takes ks (token k') t u → From R ks d start several rest (u, w) s' →
         Within R ks d start (seq (token k) (seq (token k') rest)) (s, w) s'
     named x y z = behind x ((behind y z).of_any several)

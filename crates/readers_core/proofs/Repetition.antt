@@ -17,7 +17,7 @@ use Rattle.prediction.proofs.correct.Sound.{sound}
 use Rattle.prediction.proofs.validator.Check.{all_typed}
 use Rattle.tables.specs.Tables.{token_width}
 use Rattle.readers_core.specs.Course.{Course, one, table_in}
-use Rattle.readers_core.specs.Reading.{kind_at, ahead, view, State, seen, Ends, ends_done, ends_blame}
+use Rattle.readers_core.specs.Reading.{Reading, kind_at, ahead, State, Ends, ends_done, ends_blame}
 use Rattle.readers_core.specs.Reading.{ends_deep, From}
 use Rattle.readers_core.proofs.Sharing.{at_home}
 use Rattle.readers_core.proofs.Shapes.{leaves}
@@ -27,11 +27,11 @@ use Rattle.readers_core.proofs.Choosing.{repeat_on, repeat_over, repeat_once, go
 use Rattle.readers_core.proofs.Frames.{ahead_kind, going, known_there}
 
 -- the repetition so far: whatever the rest of it does from here, the whole does from its start
-pub record Far (R : Course) (ks : List ℕ) (d start : ℕ) (a : Plan) (s s' : State) : Type 0 where
+pub record Far (R : Course) (ks : List ℕ) (d : ℕ) (start : Reading) (a : Plan) (s s' : State) : Type 0 where
   pub on : (s'' : State) → ((hs : List ℕ) → From R ks d start hs (many a) s' s'') → (hs : List ℕ) →
       From R ks d start hs (many a) s s''
 
-pub far_here : {R : Course} {ks : List ℕ} {d start : ℕ} {a : Plan} {s : State} → Far R ks d start a s s
+pub far_here : {R : Course} {ks : List ℕ} {d : ℕ} {start : Reading} {a : Plan} {s : State} → Far R ks d start a s s
 far_here = record { on = λ s'' x. x }
 
 -- a plan that reads at least one token begins here
@@ -45,7 +45,7 @@ unfolding repeats
 repeats_on t (among ks) a u = and_left (goes_on t (among ks) a) (not (null t a) && not (elem 0 ks)) u
 repeats_on t (except arms) a u = absurd u
 
-module _ {R : Course} {ks : List ℕ} {d x start : ℕ} {a : Plan} {s s' : State} (k : Known) where
+module _ {R : Course} {ks : List ℕ} {d x : ℕ} {start : Reading} {a : Plan} {s s' : State} (k : Known) where
   -- where it goes on, one or more are as many as there are
   pub repeated : {hs : List ℕ} → x ≡ ahead ks s.0 → Knows k x → T (repeats (table_in R) k a) →
       From R ks d start hs (seq a (many a)) s s' → From R ks d start hs (many a) s s'
@@ -77,27 +77,27 @@ module _ {R : Course} {ks : List ℕ} {d x start : ℕ} {a : Plan} {s s' : State
   ))
 
 -- once more
-pub far_more : {R : Course} {ks : List ℕ} {d x start : ℕ} {a : Plan} {s s' s'' : State} (k : Known) → x ≡ ahead ks s'.0 →
+pub far_more : {R : Course} {ks : List ℕ} {d x : ℕ} {start : Reading} {a : Plan} {s s' s'' : State} (k : Known) → x ≡ ahead ks s'.0 →
     Knows k x → T (repeats (table_in R) k a) → ((hs : List ℕ) → From R ks d start hs a s' s'') → Far R ks d start a s s' →
     Far R ks d start a s s''
 far_more {a = a} k e h u y far =
     record { on = λ t z. far.on t (λ hs. repeated k e h u (y hs ▸ z (leaves a hs))) }
 
 -- and no more
-pub far_over : {R : Course} {ks : List ℕ} {d x start : ℕ} {a : Plan} {s s' : State} (k : Known) → x ≡ ahead ks s'.0 →
+pub far_over : {R : Course} {ks : List ℕ} {d x : ℕ} {start : Reading} {a : Plan} {s s' : State} (k : Known) → x ≡ ahead ks s'.0 →
     Knows k x → T (is_over (table_in R) k a) → Far R ks d start a s s' → (hs : List ℕ) → From R ks d start hs (many a) s s'
 far_over {s' = s'} k e h u far = far.on s' (λ hs. none_more k e h u skipped)
 
 -- what is left to read: it falls with each turn of a repetition
-abbrev pub remaining : List ℕ → ℕ → ℕ
-remaining ks s = cond (eqb (view s).answer 0) (suc (length ks - (view s).at)) 0
+abbrev pub remaining : List ℕ → Reading → ℕ
+remaining ks s = cond (eqb s.answer 0) (suc (length ks - s.at)) 0
 
 -- what a loop that reads parts keeps: the length of the tree table, and the repetition so far in any frame; and what falls
-abbrev pub Turning : Plan → (tokens tree₀ : List ℕ) (s depth t₀ : ℕ) (tree : List ℕ) (t : ℕ) → Type 0
+abbrev pub Turning : Plan → (tokens tree₀ : List ℕ) (s : Reading) (depth : ℕ) (t₀ : Reading) (tree : List ℕ) (t : Reading) → Type 0
 Turning a tokens tree₀ s depth t₀ tree t =
-    (length tree ≡ length tree₀) × ((start : ℕ) → Far one tokens depth start a (s, tree₀) (t, tree))
+    (length tree ≡ length tree₀) × ((start : Reading) → Far one tokens depth start a (s, tree₀) (t, tree))
 
-abbrev pub to_read : (tokens tree₀ : List ℕ) (s depth t₀ : ℕ) (tree : List ℕ) (t : ℕ) → ℕ
+abbrev pub to_read : (tokens tree₀ : List ℕ) (s : Reading) (depth : ℕ) (t₀ : Reading) (tree : List ℕ) (t : Reading) → ℕ
 to_read tokens tree₀ s depth t₀ tree t = remaining tokens t
 
 within : (ks : List ℕ) (i : ℕ) → (kind_at ks i ≡ 0 → ⊥) → i < length ks
@@ -115,28 +115,28 @@ stopped_none m f l = pick (eqb m 0) (λ t. f (eqb→eq m 0 t))
     pick false f = refl
 
 -- where a token stands ahead, reading goes on, and the token is in the table
-ahead_goes : (ks : List ℕ) (s : ℕ) → (ahead ks s ≡ 0 → ⊥) → (view s).answer ≡ 0
-ahead_goes ks s n = go (going (view s).answer)
+ahead_goes : (ks : List ℕ) (s : Reading) → (ahead ks s ≡ 0 → ⊥) → s.answer ≡ 0
+ahead_goes ks s n = go (going s.answer)
   where
-    go : ((view s).answer ≡ 0) ⊎ ((view s).answer ≡ 0 → ⊥) → (view s).answer ≡ 0
+    go : (s.answer ≡ 0) ⊎ (s.answer ≡ 0 → ⊥) → s.answer ≡ 0
     go (inl z) = z
-    go (inr f) = absurd (n (stopped_none (view s).answer f (kind_at ks (view s).at)))
+    go (inr f) = absurd (n (stopped_none s.answer f (kind_at ks s.at)))
 
-ahead_within : (ks : List ℕ) (s : ℕ) → (ahead ks s ≡ 0 → ⊥) → (view s).at < length ks
-ahead_within ks s n = within ks (view s).at (λ e. n (ahead_kind ks s (ahead_goes ks s n) ∙ e))
+ahead_within : (ks : List ℕ) (s : Reading) → (ahead ks s ≡ 0 → ⊥) → s.at < length ks
+ahead_within ks s n = within ks s.at (λ e. n (ahead_kind ks s (ahead_goes ks s n) ∙ e))
 
-module _ {R : Course} {ks : List ℕ} {d start : ℕ} {a : Plan} {s s' : State} (u : T (not (null (table_in R) a)))
+module _ {R : Course} {ks : List ℕ} {d : ℕ} {start : Reading} {a : Plan} {s s' : State} (u : T (not (null (table_in R) a)))
     (x : (hs : List ℕ) → From R ks d start hs a s s') where
-  moved : (view s.0).answer ≡ 0 → (view s'.0).answer ≡ 0 → (view s.0).at < (view s'.0).at
+  moved : s.0.answer ≡ 0 → s'.0.answer ≡ 0 → s.0.at < s'.0.at
   unfolding shape elem
-  moved z z' = let r = (at_home (x (0 ∷ [])) (view start, []) refl refl).runs z end tt in far r.outcome r.run r.ends
+  moved z z' = let r = (at_home (x (0 ∷ [])) (start, []) refl refl).runs z end tt in far r.outcome r.run r.ends
     where
-      ahead_of : {j : ℕ} → Look (table_in R) (kind_at ks) a (view s.0).at j → (view s.0).at < j
+      ahead_of : {j : ℕ} → Look (table_in R) (kind_at ks) a s.0.at j → s.0.at < j
       ahead_of (look_nothing e v) = absurd (T_not (null (table_in R) a) u v)
       ahead_of (look_some h v) = h
 
-      far : (o : Outcome) → Runs (table_in R) (kind_at ks) d a (view s.0).at end o →
-          Ends R (view start, []) end (seen s) (seen s') o → (view s.0).at < (view s'.0).at
+      far : (o : Outcome) → Runs (table_in R) (kind_at ks) d a s.0.at end o →
+          Ends R (start, []) end s s' o → s.0.at < s'.0.at
       far (done j g) r (ends_done e e' k) = let h =
           ahead_of (look (table_in R) (kind_at ks) (all_typed R.checked) (sound r)) in omega arith
       far (blame q) r (ends_blame e e') = absurd (omega arith)
@@ -144,24 +144,24 @@ module _ {R : Course} {ks : List ℕ} {d start : ℕ} {a : Plan} {s s' : State} 
 
   -- a token stands before the turn
   moves_on : (ahead ks s.0 ≡ 0 → ⊥) → remaining ks s'.0 < remaining ks s.0
-  moves_on n = go (going (view s'.0).answer)
+  moves_on n = go (going s'.0.answer)
     where
-      z : (view s.0).answer ≡ 0
+      z : s.0.answer ≡ 0
       z = ahead_goes ks s.0 n
 
-      go : ((view s'.0).answer ≡ 0) ⊎ ((view s'.0).answer ≡ 0 → ⊥) → remaining ks s'.0 < remaining ks s.0
-      go (inr f) = rw (z, stopped_none (view s'.0).answer f) (omega arith)
+      go : (s'.0.answer ≡ 0) ⊎ (s'.0.answer ≡ 0 → ⊥) → remaining ks s'.0 < remaining ks s.0
+      go (inr f) = rw (z, stopped_none s'.0.answer f) (omega arith)
       go (inl z') = let h = ahead_within ks s.0 n in let m = moved z z' in rw (z, z') (omega arith)
 
   -- a token stands behind it
   came_on : (ahead ks s'.0 ≡ 0 → ⊥) → remaining ks s'.0 < remaining ks s.0
-  came_on n = go (going (view s.0).answer)
+  came_on n = go (going s.0.answer)
     where
-      z' : (view s'.0).answer ≡ 0
+      z' : s'.0.answer ≡ 0
       z' = ahead_goes ks s'.0 n
 
-      go : ((view s.0).answer ≡ 0) ⊎ ((view s.0).answer ≡ 0 → ⊥) → remaining ks s'.0 < remaining ks s.0
-      go (inr f) = absurd (f (sym ((at_home (x []) (view start, []) refl refl).stays f).answers ∙ z'))
+      go : (s.0.answer ≡ 0) ⊎ (s.0.answer ≡ 0 → ⊥) → remaining ks s'.0 < remaining ks s.0
+      go (inr f) = absurd (f (sym ((at_home (x []) (start, []) refl refl).stays f).answers ∙ z'))
       go (inl z) = let h = ahead_within ks s'.0 n in let m = moved z z' in rw (z, z') (omega arith)
 
 -- what a repetition that goes on tells
@@ -180,27 +180,27 @@ some_ahead t (among ls) a u {x} h z =
     (subst (λ (n : ℕ). T (elem n ls)) z (any_elem ls x h))
 some_ahead t (except arms) a u h z = absurd u
 
-pub falls : {R : Course} {ks : List ℕ} {d x start : ℕ} {a : Plan} {s s' : State} (k : Known) → x ≡ ahead ks s.0 → Knows k x →
+pub falls : {R : Course} {ks : List ℕ} {d x : ℕ} {start : Reading} {a : Plan} {s s' : State} (k : Known) → x ≡ ahead ks s.0 → Knows k x →
     T (repeats (table_in R) k a) → ((hs : List ℕ) → From R ks d start hs a s s') → remaining ks s'.0 < remaining ks s.0
 falls {R} {a = a} k e h u y = moves_on (reads_some (table_in R) k a u) y (λ z. some_ahead (table_in R) k a u h (e ∙ z))
 
 -- the same, where the test stands behind the turn
-pub falls_behind : {R : Course} {ks : List ℕ} {d x start : ℕ} {a : Plan} {s s' : State} (k : Known) → x ≡ ahead ks s'.0 →
+pub falls_behind : {R : Course} {ks : List ℕ} {d x : ℕ} {start : Reading} {a : Plan} {s s' : State} (k : Known) → x ≡ ahead ks s'.0 →
     Knows k x → T (repeats (table_in R) k a) → ((hs : List ℕ) → From R ks d start hs a s s') →
     remaining ks s'.0 < remaining ks s.0
 falls_behind {R} {a = a} k e h u y =
     came_on (reads_some (table_in R) k a u) y (λ z. some_ahead (table_in R) k a u h (e ∙ z))
 
 -- one or more, so far: whatever one or more do from here, they do from the start
-pub record Begun (R : Course) (ks : List ℕ) (d start : ℕ) (a : Plan) (s s' : State) : Type 0 where
+pub record Begun (R : Course) (ks : List ℕ) (d : ℕ) (start : Reading) (a : Plan) (s s' : State) : Type 0 where
   pub on : (s'' : State) → ((hs : List ℕ) → From R ks d start hs (seq a (many a)) s' s'') → (hs : List ℕ) →
       From R ks d start hs (seq a (many a)) s s''
 
-pub begun_here : {R : Course} {ks : List ℕ} {d start : ℕ} {a : Plan} {s : State} → Begun R ks d start a s s
+pub begun_here : {R : Course} {ks : List ℕ} {d : ℕ} {start : Reading} {a : Plan} {s : State} → Begun R ks d start a s s
 begun_here = record { on = λ s'' x. x }
 
 -- one more, behind which others stand
-pub begun_more : {R : Course} {ks : List ℕ} {d x start : ℕ} {a : Plan} {s s' s'' : State} (k : Known) → x ≡ ahead ks s''.0 →
+pub begun_more : {R : Course} {ks : List ℕ} {d x : ℕ} {start : Reading} {a : Plan} {s s' s'' : State} (k : Known) → x ≡ ahead ks s''.0 →
     Knows k x → T (repeats (table_in R) k a) → ((hs : List ℕ) → From R ks d start hs a s' s'') → Begun R ks d start a s s' →
     Begun R ks d start a s s''
 begun_more {a = a} {s'' = s''} k e h u y begun = record {
@@ -208,15 +208,15 @@ begun_more {a = a} {s'' = s''} k e h u y begun = record {
 }
 
 -- the last one
-pub begun_over : {R : Course} {ks : List ℕ} {d x start : ℕ} {a : Plan} {s s' s'' : State} (k : Known) → x ≡ ahead ks s''.0 →
+pub begun_over : {R : Course} {ks : List ℕ} {d x : ℕ} {start : Reading} {a : Plan} {s s' s'' : State} (k : Known) → x ≡ ahead ks s''.0 →
     Knows k x → T (is_over (table_in R) k a) → ((hs : List ℕ) → From R ks d start hs a s' s'') → Begun R ks d start a s s' →
     (hs : List ℕ) → From R ks d start hs (seq a (many a)) s s''
 begun_over {a = a} {s'' = s''} k e h u y begun = begun.on s'' (λ hs. y hs ▸ far_over k e h u far_here (leaves a hs))
 
 -- what a loop keeps that reads one part at least
-abbrev pub Beginning : Plan → (tokens tree₀ : List ℕ) (s depth t₀ : ℕ) (tree : List ℕ) (t : ℕ) → Type 0
+abbrev pub Beginning : Plan → (tokens tree₀ : List ℕ) (s : Reading) (depth : ℕ) (t₀ : Reading) (tree : List ℕ) (t : Reading) → Type 0
 Beginning a tokens tree₀ s depth t₀ tree t =
-    (length tree ≡ length tree₀) × ((start : ℕ) → Begun one tokens depth start a (s, tree₀) (t, tree))
+    (length tree ≡ length tree₀) × ((start : Reading) → Begun one tokens depth start a (s, tree₀) (t, tree))
 
 in_itself : (k : ℕ) → T (subset (k ∷ []) (k ∷ []))
 unfolding subset

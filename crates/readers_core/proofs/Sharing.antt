@@ -11,7 +11,7 @@ use Rattle.prediction.specs.validator.Typing.{null, first}
 use Rattle.prediction.specs.validator.Fixpoint.{round}
 use Rattle.prediction.specs.validator.Check.{plans_of, rounds, table}
 use Rattle.readers_core.specs.Course.{Course, Shares, table_in}
-use Rattle.readers_core.specs.Reading.{view, State, Seen, seen, Does, From}
+use Rattle.readers_core.specs.Reading.{Reading, State, Does, From}
 
 abbrev pub itself : (C : Course) → Shares C C
 itself C = record {
@@ -24,10 +24,10 @@ itself C = record {
 }
 
 -- so what is read by the plans of a course is read in that course
-pub at_home : {R : Course} {ks : List ℕ} {d start : ℕ} {hs : List ℕ} {p : Plan} {s s' : State} → From R ks d start hs p s s' →
-    (b : Seen) → b.0.at ≡ (view start).at → b.0.count ≡ (view start).count → Does R ks d hs p b (seen s) (seen s')
+pub at_home : {R : Course} {ks : List ℕ} {d : ℕ} {start : Reading} {hs : List ℕ} {p : Plan} {s s' : State} → From R ks d start hs p s s' →
+    (b : State) → b.0.at ≡ start.at → b.0.count ≡ start.count → Does R ks d hs p b s s'
 at_home {R} {ks} {d} {hs = hs} {p = p} {s = s} {s' = s'} x b e e' =
-    subst (λ (q : Plan). Does R ks d hs q b (seen s) (seen s')) (renamed_same p) (x.does (itself R) (all_inside p) b e e')
+    subst (λ (q : Plan). Does R ks d hs q b s s') (renamed_same p) (x.does (itself R) (all_inside p) b e e')
 
 module _ {R C : Course} (m : Shares R C) where
   null_of_same : (n : ℕ) → T (m.rule n) → (table_in C).null_of (m.number n) ≡ (table_in R).null_of n
@@ -72,11 +72,11 @@ through {R} m m' = record {
     second_of n = and_right (m.rule n) (m'.rule (m.number n))
 
 -- so what is read by the plans of a course is read by those of each course that shares the rules
-pub carried : {R S : Course} (m : Shares R S) {ks : List ℕ} {d start : ℕ} {hs : List ℕ} {p : Plan} {s s' : State} →
+pub carried : {R S : Course} (m : Shares R S) {ks : List ℕ} {d : ℕ} {start : Reading} {hs : List ℕ} {p : Plan} {s s' : State} →
     Inside m.rule p → From R ks d start hs p s s' → From S ks d start hs (renamed m.number p) s s'
 unfolding through
 carried m {ks} {d} {hs = hs} {p = p} {s = s} {s' = s'} u x = record {
   does = λ {C} m' v b e e'.
-      subst (λ (q : Plan). Does C ks d hs q b (seen s) (seen s')) (renamed_twice m.number m'.number p)
+      subst (λ (q : Plan). Does C ks d hs q b s s') (renamed_twice m.number m'.number p)
       (x.does (through m m') (inside_both m.rule m'.rule m.number p u v) b e e');
 }

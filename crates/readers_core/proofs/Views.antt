@@ -29,13 +29,6 @@ has_stopped s h e = go (eqb (s % step) deep_rest) (sym (stop_answers s h) ∙ e)
     go true u = omega (arith, u)
     go false u = omega (arith, u)
 
--- as the test `has_stopped` tells
-pub stopped_if : (s : ℕ) {x : Bool} → x ≡ leb stop s → x ≡ true → (view s).answer ≡ 0 → ⊥
-stopped_if s e h = has_stopped s (leb→le stop s (subst (λ (b : Bool). T b) (sym h ∙ e) tt))
-
-pub going_if : (s : ℕ) {x : Bool} → x ≡ leb stop s → x ≡ false → (view s).answer ≡ 0
-going_if s e h = goes_on s (nleb→lt stop s (subst (λ (b : Bool). T (not b)) (sym h ∙ e) tt))
-
 -- as the test `is_too_deep` tells
 pub deep_if : (s : ℕ) → stop ≤ s → eqb (s % step) deep_rest ≡ eqb (view s).answer sunk
 deep_if s h = rw (stop_answers s h) (go (eqb (s % step) deep_rest))
@@ -78,16 +71,6 @@ module _ (s : ℕ) (low : s < stop) (fits : token_width * (s % half) < half) whe
 
   pub onward_count : (view (s + 1)).count ≡ (view s).count
   onward_count = omega (arith, low, fits)
-
--- a stop stays also where a token is found at its low half, which no reader makes
-module _ (s : ℕ) (high : stop ≤ s) (fits : token_width * (s % half) < half) where
-  pub onward_answers : (view (s + 1)).answer ≡ (view s).answer
-  onward_answers =
-      stops_blamed (s + 1) (omega (arith, high)) (λ e. omega (arith, e, fits))
-      ∙ sym (stops_blamed s high (λ e. omega (arith, e, fits)))
-
-  pub onward_there : (view (s + 1)).at ≡ (view s).at
-  onward_there = stop_at (s + 1) (omega (arith, high)) ∙ omega (arith, stop_at s high, high, fits)
 
 -- a record is counted
 module _ (s : ℕ) (low : (view s).count < ceiling) where

@@ -1,3 +1,4 @@
 pub mod Notation
 pub mod Course
 pub mod Reading
+pub mod Packing

@@ -1,6 +1,6 @@
 -- A reader's state with the tree table, and what reading by a plan makes of it: one relation for every reader.
 -- Assumes nothing: these are definitions.
-use Rattle.std.specs.Prelude.{◌≡◌, ℕ, suc, ◌+◌, ◌-◌, ◌*◌, ◌/◌, ◌%◌, ◌^◌, ◌<◌, min, Bool, true, cond, not, ◌&&◌, T, List, [], ◌∷◌, length, ◌==◌, ◌≢◌, nat_lt, slice_index}
+use Rattle.std.specs.Prelude.{◌≡◌, ℕ, suc, ◌+◌, ◌-◌, ◌*◌, ◌/◌, ◌%◌, ◌^◌, ◌<◌, min, Bool, true, cond, not, ◌&&◌, T, List, [], ◌∷◌, length, ◌==◌, ◌≢◌, nat_lt, ◌≤◌, slice_index}
 use Rattle.grammar.specs.Forest.{Forest, width}
 use Rattle.grammar.specs.Idl.{idl}
 use Rattle.grammar.specs.Record.{TreeRecord, tree_record, shape, recorded}
@@ -35,6 +35,14 @@ pub record Reading : Type 0 where
   pub at : ℕ
   pub count : ℕ
 
+-- it has stopped
+abbrev pub halted : Reading → Bool
+halted r = not (r.answer == going)
+
+-- before the first token
+abbrev pub beginning : Reading
+beginning = record { answer = going; at = 0; count = 0 }
+
 -- the same in one number: the next token in its low half, the records in its high half; from 2 ^ 63 on a stop, with 2 ^ 31
 -- times its token, and a rest that tells the one for depth
 abbrev pub half : ℕ
@@ -67,9 +75,17 @@ view s = record {
   count = s / half;
 }
 
+-- the numbers that readers make: a stop has one of the two rests
+abbrev pub IsState : ℕ → Type 0
+IsState s = stop ≤ s → deep_rest ≤ s % step
+
+-- and the number of what a reader has come to
+abbrev pub packed : Reading → ℕ
+packed r = cond (r.answer == going) (r.at + half * r.count) (r.at * step + cond (r.answer == sunk) too_deep blamed)
+
 -- the kind of the next token, 0 at the end and where reading has stopped
-abbrev pub ahead : List ℕ → ℕ → ℕ
-ahead tokens s = cond ((view s).answer == going) (kind_at tokens (view s).at) 0
+abbrev pub ahead : List ℕ → Reading → ℕ
+ahead tokens s = cond (s.answer == going) (kind_at tokens s.at) 0
 
 -- a count of records stays where it fills its part
 abbrev pub ceiling : ℕ
@@ -88,15 +104,9 @@ unfolding write
 writes table n [] = table
 writes table n (r ∷ rs) = writes (write table n r) (suc n) rs
 
--- a reader's state and the tree table, and how the laws see them
+-- what a reader has come to, with the tree table
 abbrev pub State : Type 0
-State = ℕ × List ℕ
-
-abbrev pub Seen : Type 0
-Seen = Reading × List ℕ
-
-abbrev pub seen : State → Seen
-seen s = (view s.0, s.1)
+State = Reading × List ℕ
 
 -- What reading by a plan is, from the inside out:
 --   Held    what the frame of a rule has read: where it stands, and the records that are counted and written
@@ -110,62 +120,67 @@ seen s = (view s.0, s.1)
 --   FlatFollows                   Flat, of whichever rule has a given plan
 --   Takes, Opens, Closes          what readers are made of: tokens, opening marks, nodes
 
+-- it goes on, and stops at the next token with this answer
+pub record Stops (answer : ℕ) (s s' : Reading) : Type 0 where
+  pub answers : s'.answer ≡ answer
+  pub places : s'.at ≡ s.at
+
 -- a stop stays: its answer and its place
-pub record Stays (s s' : Seen) : Type 0 where
+pub record Stays (s s' : State) : Type 0 where
   pub answers : s'.0.answer ≡ s.0.answer
   pub places : s'.0.at ≡ s.0.at
 
 -- in the course C
 module _ (C : Course) where
   -- the frame that began in state b has read the forest f
-  pub record Held (b : Seen) (f : Forest) (s : Seen) : Type 0 where
+  pub record Held (b : State) (f : Forest) (s : State) : Type 0 where
     pub at_is : s.0.at ≡ b.0.at + width f
     pub count_is : s.0.count ≡ counted (b.0.count + length (noted C b.0.at f))
     pub table_is : s.1 ≡ writes b.1 b.0.count (noted C b.0.at f)
 
   -- how a run from s, in the frame that began in state b and has read f, ends in s'
-  pub data Ends (b : Seen) (f : Forest) (s s' : Seen) : Outcome → Type 0 where
+  pub data Ends (b : State) (f : Forest) (s s' : State) : Outcome → Type 0 where
     ends_done : {j : ℕ} {g : Forest} → s'.0.answer ≡ going → s'.0.at ≡ j → (Held b f s → Held b g s') →
         Ends b f s s' (done j g)
     ends_blame : {q : ℕ} → s'.0.answer ≡ blaming → s'.0.at ≡ q → Ends b f s s' (blame q)
     ends_deep : {q : ℕ} → s'.0.answer ≡ sunk → s'.0.at ≡ q → Ends b f s s' (deep q)
 
-  pub record Ran (ks : List ℕ) (d : ℕ) (p : Plan) (b : Seen) (f : Forest) (s s' : Seen) : Type 0 where
+  pub record Ran (ks : List ℕ) (d : ℕ) (p : Plan) (b : State) (f : Forest) (s s' : State) : Type 0 where
     pub outcome : Outcome
     pub run : Runs (table_in C) (kind_at ks) d p s.0.at f outcome
     pub ends : Ends b f s s' outcome
 
   -- reading by plan p, on the token table ks with d levels of depth left, in the frame that began in state b and has read
   -- a forest of one of the shapes hs
-  pub record Does (ks : List ℕ) (d : ℕ) (hs : List ℕ) (p : Plan) (b s s' : Seen) : Type 0 where
+  pub record Does (ks : List ℕ) (d : ℕ) (hs : List ℕ) (p : Plan) (b s s' : State) : Type 0 where
     pub stays : (s.0.answer ≢ going) → Stays s s'
     pub runs : s.0.answer ≡ going → (f : Forest) → T (elem (shape f) hs) → Ran ks d p b f s s'
 
 -- by the plans of the course R, in each course that shares the rules which they name
 module _ (R : Course) where
   -- in the frame that began where `start` stands, with one of the shapes hs before
-  pub record From (ks : List ℕ) (d start : ℕ) (hs : List ℕ) (p : Plan) (s s' : State) : Type 0 where
-    pub does : {C : Course} (m : Shares R C) → Inside m.rule p → (b : Seen) → b.0.at ≡ (view start).at →
-        b.0.count ≡ (view start).count → Does C ks d hs (renamed m.number p) b (seen s) (seen s')
+  pub record From (ks : List ℕ) (d : ℕ) (start : Reading) (hs : List ℕ) (p : Plan) (s s' : State) : Type 0 where
+    pub does : {C : Course} (m : Shares R C) → Inside m.rule p → (b : State) → b.0.at ≡ start.at →
+        b.0.count ≡ start.count → Does C ks d hs (renamed m.number p) b s s'
 
   -- in the frame that began where `start` stands, whatever its shape
-  pub record Within (ks : List ℕ) (d start : ℕ) (p : Plan) (s s' : State) : Type 0 where
+  pub record Within (ks : List ℕ) (d : ℕ) (start : Reading) (p : Plan) (s s' : State) : Type 0 where
     pub of_any : (hs : List ℕ) → From ks d start hs p s s'
 
   -- in any frame
   pub record Reads (ks : List ℕ) (d : ℕ) (p : Plan) (s s' : State) : Type 0 where
-    pub in_any : (start : ℕ) (hs : List ℕ) → From ks d start hs p s s'
+    pub in_any : (start : Reading) (hs : List ℕ) → From ks d start hs p s s'
 
   -- in any frame, whatever the depth
   pub record Flat (ks : List ℕ) (p : Plan) (s s' : State) : Type 0 where
     pub at_any : (d : ℕ) → Reads ks d p s s'
 
   -- in the frame that began where `start` stands, whatever the depth
-  pub record FlatWithin (ks : List ℕ) (start : ℕ) (p : Plan) (s s' : State) : Type 0 where
+  pub record FlatWithin (ks : List ℕ) (start : Reading) (p : Plan) (s s' : State) : Type 0 where
     pub at_any : (d : ℕ) → Within ks d start p s s'
 
   -- with one of the shapes hs before, whatever the depth
-  pub record FlatFrom (ks : List ℕ) (start : ℕ) (hs : List ℕ) (p : Plan) (s s' : State) : Type 0 where
+  pub record FlatFrom (ks : List ℕ) (start : Reading) (hs : List ℕ) (p : Plan) (s s' : State) : Type 0 where
     pub at_any : (d : ℕ) → From ks d start hs p s s'
 
   -- a use of rule r is recorded over each of these shapes; over none of them: tests that compute in edition 1
@@ -187,11 +202,11 @@ abbrev pub several : List ℕ
 several = 2 ∷ []
 
 -- tokens alone, in every course, whatever the depth and the tree table
-pub record Takes (ks : List ℕ) (p : Plan) (s s' : ℕ) : Type 0 where
+pub record Takes (ks : List ℕ) (p : Plan) (s s' : Reading) : Type 0 where
   pub reads : {R : Course} (d : ℕ) (w : List ℕ) → Reads R ks d p (s, w) (s', w)
 
 -- what was read since `start` becomes a node of the rule that readers write as n, with its record, in every course
-pub record Closes (n start : ℕ) (s s' : State) : Type 0 where
+pub record Closes (n : ℕ) (start : Reading) (s s' : State) : Type 0 where
   pub wraps : {R : Course} {r : ℕ} → R.code r ≡ n → (ks : List ℕ) (d : ℕ) (hs : List ℕ) → T (all_recorded R r hs) →
       From R ks d start hs (wrap r) s s'
 
@@ -200,11 +215,11 @@ pub record FlatFollows (ks : List ℕ) (n : ℕ) (p : ℕ → Plan) (s s' : Stat
   pub reads : {R : Course} {r : ℕ} → R.code r ≡ n → (table_in R).plan r ≡ p r → Flat R ks (call r) s s'
 
 -- an opening mark k, with d levels of depth left
-pub data Opens (ks : List ℕ) (d k : ℕ) (s s' : ℕ) : Type 0 where
-  opens_stopped : ((view s).answer ≢ going) → (view s').answer ≡ (view s).answer → (view s').at ≡ (view s).at → Opens ks d k s s'
-  opens_blamed : (view s).answer ≡ going → (kind_at ks (view s).at ≢ k) → (view s').answer ≡ blaming →
-      (view s').at ≡ (view s).at → Opens ks d k s s'
-  opens_deep : (view s).answer ≡ going → kind_at ks (view s).at ≡ k → d ≡ 0 → (view s').answer ≡ sunk →
-      (view s').at ≡ (view s).at → Opens ks d k s s'
-  opens_inside : (view s).answer ≡ going → kind_at ks (view s).at ≡ k → 0 < d → (view s').answer ≡ going →
-      (view s').at ≡ (view s).at + 1 → (view s').count ≡ (view s).count → Opens ks d k s s'
+pub data Opens (ks : List ℕ) (d k : ℕ) (s s' : Reading) : Type 0 where
+  opens_stopped : (s.answer ≢ going) → s'.answer ≡ s.answer → s'.at ≡ s.at → Opens ks d k s s'
+  opens_blamed : s.answer ≡ going → (kind_at ks s.at ≢ k) → s'.answer ≡ blaming →
+      s'.at ≡ s.at → Opens ks d k s s'
+  opens_deep : s.answer ≡ going → kind_at ks s.at ≡ k → d ≡ 0 → s'.answer ≡ sunk →
+      s'.at ≡ s.at → Opens ks d k s s'
+  opens_inside : s.answer ≡ going → kind_at ks s.at ≡ k → 0 < d → s'.answer ≡ going →
+      s'.at ≡ s.at + 1 → s'.count ≡ s.count → Opens ks d k s s'

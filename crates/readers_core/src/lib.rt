@@ -1,18 +1,39 @@
-// A reader's state, and what every reader is made of: tokens, marks that open, and nodes.
-// A state that has stopped passes through every reader, so that readers are straight lines. They pass the token table on as
-// `&*tokens`, and those that the compiler does not inline lend it anew at their start, too: so it travels in registers.
+// What every reader is made of: how far reading has come, tokens, marks that open, and nodes.
+// A reading that has stopped passes through every reader, so that readers are straight lines.
 // A reader's contract names the course whose plans it follows, `one` for edition 1, and holds in every course that shares the rules.
 #![tactic(auto)]
 
-ghost use Rattle.std.specs.Prelude.{◌≡◌, ◌-◌, ◌%◌, ◌==◌, nat_le};
+ghost use Rattle.std.specs.Prelude.{◌≡◌, ℕ, List, ◌-◌, ◌%◌, ◌<◌, ◌==◌};
 ghost use Rattle.prediction.specs.plans.Plan.{token};
-ghost use Rattle.readers_core.specs.Reading.{IsKind, kind_at, ahead, half, stop, sunk, Addressable, view, Takes, Opens, Closes};
+ghost use Rattle.readers_core.specs.Reading.{IsKind, kind_at, ahead, half, stop, blaming, sunk, Addressable, view, halted};
+ghost use Rattle.readers_core.specs.Reading.{beginning, Stops, Takes, Opens, Closes};
 
-// Where a reader stands, in one number that travels in a register. Its low half is the number of the next token; its high
-// half counts the tree records so far. From 2^63 on it tells that reading has stopped: it holds 2^31 times the token at which
-// it has, and a rest. The rest tells whether that token is blamed or lies too deep, and makes the low half larger than the
-// number of any token in a table, so that none is found there.
-pub type Reading = u64;
+use std::marker::Model;
+
+// How far reading has come: the next token, the tree records so far, and whether it has stopped. It is one number, which travels in
+// a register. Its low half is the number of the next token; its high half counts the records. From 2^63 on it tells that reading
+// has stopped: it holds 2^31 times the token at which it has, and a rest. The rest tells whether that token is blamed or lies too
+// deep, and makes the low half larger than the number of any token in a table, so that none is found there.
+#[derive(Clone, Copy)]
+pub struct Reading {
+    state: u64,
+}
+
+impl Model for Reading {
+    ghost use Rattle.std.proofs.Common.{ℕ, ap};
+    ghost use Rattle.readers_core.specs.Reading.{Reading as Seen, IsState, packed, view as seen};
+    ghost use Rattle.readers_core.specs.Packing.{packed_view};
+
+    ghost Value = { Seen };
+
+    ghost view = { λ r. seen r.state };
+
+    ghost invariant = { λ r. IsState r.state };
+
+    ghost inverse = { λ v. record { state = packed v } };
+
+    ghost inverse_ok = { λ r h. ap (λ (s : ℕ). record { state = s }) (packed_view r.state h) };
+}
 
 const HALF: u64 = 1 << 32;
 
@@ -29,128 +50,171 @@ const BLAMED: u64 = STOP + (STEP - 1);
 const TOO_DEEP: u64 = STOP + DEEP;
 
 // The low half.
-fn low(state: Reading) -> u32
+fn low(state: u64) -> u32
     ensures { result ≡ state % half }
 {
     (state % HALF) as u32
 }
 
-// The number of the next token, or of the one at which reading has stopped.
-pub fn place(state: Reading) -> u32
-    ensures { result ≡ (view state).at }
-{
-    if STOP <= state {
-        return ((state - STOP) / STEP) as u32;
-    }
-    low(state)
-}
-
-// The tree records so far, where reading goes on.
-pub fn records(state: Reading) -> u32
+// The high half.
+fn high(state: u64) -> u32
     ensures { result ≡ (view state).count }
 {
     (state / HALF) as u32
 }
 
-// Whether reading has stopped.
-pub fn has_stopped(state: Reading) -> bool
-    ensures { result ≡ nat_le stop state }
+// A stop at the next token.
+fn blamed(state: u64) -> Reading
+    requires { state < stop }
+    ensures { Stops blaming (view state) result }
 {
-    STOP <= state
+    Reading { state: state % HALF * STEP + BLAMED }
 }
 
-// Whether it has stopped at a token that lies too deep.
-pub fn is_too_deep(state: Reading) -> bool
-    ensures { result ≡ ((view state).answer == sunk) }
+fn too_deep(state: u64) -> Reading
+    requires { state < stop }
+    ensures { Stops sunk (view state) result }
 {
-    if STOP <= state {
-        return state % STEP == DEEP;
-    }
-    false
+    Reading { state: state % HALF * STEP + TOO_DEEP }
 }
 
-// The kind of token i; 0 past the end.
-pub fn kind_at(tokens: &[u32], i: u32) -> u32
-    ensures { result ≡ kind_at tokens.now i }
-{
-    let place = tables::TOKEN_WIDTH * (i as usize);
-    if place < tokens.len() {
-        tokens[place]
-    } else {
-        0
+impl Reading {
+    // Before the first token.
+    pub fn new() -> Reading
+        ensures { result ≡ beginning }
+    {
+        Reading { state: 0 }
     }
-}
 
-// The kind of the next token; 0 at the end and where reading has stopped.
-pub fn next_kind(tokens: &[u32], state: Reading) -> u32
-    ensures { result ≡ ahead tokens.now state }
-{
-    if STOP <= state {
-        return 0;
-    }
-    kind_at(tokens, low(state))
-}
-
-// Reads a token of the kind.
-pub fn take(tokens: &[u32], state: Reading, kind: u32) -> Reading
-    requires { Addressable tokens.now × IsKind kind }
-    ensures { Takes tokens.now (token kind) state result }
-{
-    let found = kind_at(tokens, low(state));
-    if found == kind {
-        return state + 1;
-    }
-    if STOP <= state {
-        return state;
-    }
-    state % HALF * STEP + BLAMED
-}
-
-// Reads an opening mark, where a level of depth is left.
-pub fn open(tokens: &[u32], state: Reading, mark: u32, depth: u32) -> Reading
-    requires { Addressable tokens.now × IsKind mark }
-    ensures { Opens tokens.now depth mark state result }
-{
-    let found = kind_at(tokens, low(state));
-    if found == mark {
-        if 0 < depth {
-            return state + 1;
+    // The number of the next token, or of the one at which reading has stopped.
+    pub fn place(self) -> u32
+        ensures { result ≡ self.at }
+    {
+        if STOP <= self.state {
+            return ((self.state - STOP) / STEP) as u32;
         }
-        // The contract is about any number, also about one that no reader makes.
-        if STOP <= state {
-            return state;
+        low(self.state)
+    }
+
+    // The tree records so far, where reading goes on.
+    pub fn records(self) -> u32
+        ensures { result ≡ self.count }
+    {
+        high(self.state)
+    }
+
+    // Whether reading has stopped.
+    pub fn has_stopped(self) -> bool
+        ensures { result ≡ halted self }
+    {
+        STOP <= self.state
+    }
+
+    // Whether it has stopped at a token that lies too deep.
+    pub fn is_too_deep(self) -> bool
+        ensures { result ≡ (self.answer == sunk) }
+    {
+        STOP <= self.state && self.state % STEP == DEEP
+    }
+}
+
+// The tokens of a lent table, whose places fit 32 bits.
+#[derive(Drop)]
+pub struct Tokens<'a> {
+    table: &'a [u32],
+}
+
+impl<'a> Model for Tokens<'a> {
+    ghost Value = { List ℕ };
+
+    ghost view = { λ t. t.table.now };
+
+    ghost invariant = { λ t. Addressable t.table.now };
+}
+
+impl<'a> Tokens<'a> {
+    pub fn new(table: &'a [u32]) -> Tokens<'a>
+        requires { Addressable table.now }
+        ensures { result ≡ table.now }
+    {
+        Tokens { table }
+    }
+
+    // The kind of token i; that of the end past the last.
+    pub fn kind_at(&self, i: u32) -> u32
+        ensures kind { result ≡ kind_at self.now i }
+        ensures addressable { Addressable self.now }
+    {
+        let place = tables::TOKEN_WIDTH * (i as usize);
+        if place < self.table.len() {
+            self.table[place]
+        } else {
+            0
         }
-        return state % HALF * STEP + TOO_DEEP;
     }
-    if STOP <= state {
-        return state;
+
+    // The kind of the next token; that of the end also where reading has stopped.
+    pub fn next_kind(&self, at: Reading) -> u32
+        ensures { result ≡ ahead self.now at }
+    {
+        if STOP <= at.state {
+            return 0;
+        }
+        self.kind_at(low(at.state))
     }
-    state % HALF * STEP + BLAMED
+
+    // Reads a token of the kind.
+    pub fn take(&self, at: Reading, kind: u32) -> Reading
+        requires { IsKind kind }
+        ensures { Takes self.now (token kind) at result }
+    {
+        if self.kind_at(low(at.state)) == kind {
+            return Reading { state: at.state + 1 };
+        }
+        if STOP <= at.state {
+            return at;
+        }
+        blamed(at.state)
+    }
+
+    // Reads an opening mark, where a level of depth is left.
+    pub fn open(&self, at: Reading, mark: u32, depth: u32) -> Reading
+        requires { IsKind mark }
+        ensures { Opens self.now depth mark at result }
+    {
+        if self.kind_at(low(at.state)) == mark {
+            if 0 < depth {
+                return Reading { state: at.state + 1 };
+            }
+            return too_deep(at.state);
+        }
+        if STOP <= at.state {
+            return at;
+        }
+        blamed(at.state)
+    }
 }
 
 // The levels of depth that are left behind an opening mark.
 pub fn inner(depth: u32) -> u32
     ensures { result ≡ depth - 1 }
 {
-    if depth == 0 {
-        return 0;
-    }
-    depth - 1
+    depth.saturating_sub(1)
 }
 
 // What has been read since `start` becomes one node of the rule, which is recorded. The count has its ceiling below a stop.
-pub fn node(tree: &mut [u32], start: Reading, state: Reading, rule: u32) -> Reading
-    ensures { Closes rule start (state, tree.old) (result, tree.new) }
+pub fn node(tree: &mut [u32], start: Reading, at: Reading, rule: u32) -> Reading
+    ensures { Closes rule start (at, tree.old) (result, tree.new) }
 {
-    if STOP <= state {
-        return state;
+    if STOP <= at.state {
+        return at;
     }
-    let counted = state + HALF;
+    let counted = at.state + HALF;
     if STOP <= counted {
-        return state;
+        return at;
     }
-    let place = records(state);
-    let size = records(std::num::wrapping_sub_u64(counted, start));
-    tables::put_node(tree, place as usize, rule, low(start), low(state), size);
-    counted
+    let place = high(at.state);
+    let size = high(counted.wrapping_sub(start.state));
+    tables::put_node(tree, place as usize, rule, low(start.state), low(at.state), size);
+    Reading { state: counted }
 }

@@ -7,30 +7,25 @@ use Rattle.readers_core.proofs.Views.{counted_at, counted_count, counted_goes, c
 use Rattle.readers_core.specs.Reading.{ceiling, view}
 use Rattle.readers_core.proofs.node.Goals as goal
 
-pub returns-then-state-ge-STOP : goal.returns-then-state-ge-STOP
-returns-then-state-ge-STOP c = record { wraps = λ is ks d hs t. full_node t (omega (arith, c.if-state-ge-STOP.true)) }
+pub returns-then-at-ge-STOP : goal.returns-then-at-ge-STOP
+returns-then-at-ge-STOP c =
+    rw (← c.at.view_is) (record { wraps = λ is ks d hs t. full_node t (omega (arith, c.if-at-ge-STOP.true)) })
 
 pub returns-then-counted-ge-STOP : goal.returns-then-counted-ge-STOP
-returns-then-counted-ge-STOP c = record { wraps = λ is ks d hs t. full_node t (omega (arith, c.if-counted-ge-STOP.true)) }
+returns-then-counted-ge-STOP c =
+    rw (← c.at.view_is) (record { wraps = λ is ks d hs t. full_node t (omega (arith, c.if-counted-ge-STOP.true)) })
 
 pub returns : goal.returns
 returns c =
-    let args = c.args in
-    let if1 = c.if-state-ge-STOP in
-    let if2 = c.if-counted-ge-STOP in
-    let records = c.records-place in
-    let wrapping_sub_u64 = c.wrapping_sub_u64 in
-    let records2 = c.records-size in
-    let low_start = c.low in
-    let low_end = c.low-2 in
-    let put_node = c.put_node in
-    let low : (view args.state).count < ceiling = omega (arith, if2.false) in
-    record {
-      wraps = λ is ks d hs t.
-          recorded_node is t (goes_on args.state if1.false) low (counted_goes args.state low)
-          (counted_at args.state low) (counted_count args.state low)
-          (λ le le'. put_node.ensures ∙ write_below args.tree.now args.rule low records.ensures
-          (low_start.ensures ∙ started_at args.state low args.start le')
-          (low_end.ensures ∙ sym (going_at args.state if1.false))
-          (records2.ensures ∙ counted_since args.state low args.start le' le (omega arith) wrapping_sub_u64.ensures.value));
-    }
+    let s = c.at.inside.state in
+    let t = c.start.inside.state in
+    let going = c.if-at-ge-STOP.false in
+    let low : (view s).count < ceiling = omega (arith, c.if-counted-ge-STOP.false) in
+    rw (← c.at.view_is, ← c.start.view_is) (record {
+      wraps = λ is ks d hs e.
+          recorded_node is e (goes_on s going) low (counted_goes s low) (counted_at s low) (counted_count s low)
+          (λ le le'. c.put_node.ensures ∙ write_below c.args.tree.now c.args.rule low c.high-place.ensures
+          (c.low.ensures ∙ started_at s low t le')
+          (c.low-2.ensures ∙ sym (going_at s going))
+          (c.high-size.ensures ∙ counted_since s low t le' le (omega arith) (omega (arith, le', c.if-counted-ge-STOP.false))));
+    })
