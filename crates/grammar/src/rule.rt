@@ -1,310 +1,342 @@
-// The rules of source document 000 by name. The contract of `all` holds them to the published rules, in their order.
-ghost use Rattle.std.specs.Prelude.{◌≡◌};
+// The rules of the published grammar. The contract of `all` holds their names to the rules, in their order.
+ghost use Rattle.std.specs.Prelude.{◌≡◌, ℕ};
 ghost use Rattle.grammar.specs.Names.{all_rules};
 
-pub const SPECIFICATION: u32 = 1;
+use std::marker::Model;
 
-pub const DEFINITION: u32 = 2;
+// A rule, by its number, as a tree record has it.
+#[derive(Clone, Copy, PartialEq, Eq, PartialOrd, Ord)]
+pub struct Rule(u32);
 
-pub const MODULE: u32 = 3;
+impl Model for Rule {
+    ghost Value = { ℕ };
 
-pub const INTERFACE: u32 = 4;
+    ghost view = { λ r. r.0 };
 
-pub const INTERFACE_DCL: u32 = 5;
+    ghost inverse = { λ n. record { 0 = n } };
+}
 
-pub const FORWARD_DCL: u32 = 6;
+impl Rule {
+    pub const SPECIFICATION: Rule = Rule(1);
 
-pub const INTERFACE_HEADER: u32 = 7;
+    pub const DEFINITION: Rule = Rule(2);
 
-pub const INTERFACE_BODY: u32 = 8;
+    pub const MODULE: Rule = Rule(3);
 
-pub const EXPORT: u32 = 9;
+    pub const INTERFACE: Rule = Rule(4);
 
-pub const INTERFACE_INHERITANCE_SPEC: u32 = 10;
+    pub const INTERFACE_DCL: Rule = Rule(5);
 
-pub const INTERFACE_NAME: u32 = 11;
+    pub const FORWARD_DCL: Rule = Rule(6);
 
-pub const SCOPED_NAME: u32 = 12;
+    pub const INTERFACE_HEADER: Rule = Rule(7);
 
-pub const VALUE: u32 = 13;
+    pub const INTERFACE_BODY: Rule = Rule(8);
 
-pub const VALUE_FORWARD_DCL: u32 = 14;
+    pub const EXPORT: Rule = Rule(9);
 
-pub const VALUE_BOX_DCL: u32 = 15;
+    pub const INTERFACE_INHERITANCE_SPEC: Rule = Rule(10);
 
-pub const VALUE_ABS_DCL: u32 = 16;
+    pub const INTERFACE_NAME: Rule = Rule(11);
 
-pub const VALUE_DCL: u32 = 17;
+    pub const SCOPED_NAME: Rule = Rule(12);
 
-pub const VALUE_HEADER: u32 = 18;
+    pub const VALUE: Rule = Rule(13);
 
-pub const VALUE_INHERITANCE_SPEC: u32 = 19;
+    pub const VALUE_FORWARD_DCL: Rule = Rule(14);
 
-pub const VALUE_NAME: u32 = 20;
+    pub const VALUE_BOX_DCL: Rule = Rule(15);
 
-pub const VALUE_ELEMENT: u32 = 21;
+    pub const VALUE_ABS_DCL: Rule = Rule(16);
 
-pub const STATE_MEMBER: u32 = 22;
+    pub const VALUE_DCL: Rule = Rule(17);
 
-pub const INIT_DCL: u32 = 23;
+    pub const VALUE_HEADER: Rule = Rule(18);
 
-pub const INIT_PARAM_DECLS: u32 = 24;
+    pub const VALUE_INHERITANCE_SPEC: Rule = Rule(19);
 
-pub const INIT_PARAM_DECL: u32 = 25;
+    pub const VALUE_NAME: Rule = Rule(20);
 
-pub const INIT_PARAM_ATTRIBUTE: u32 = 26;
+    pub const VALUE_ELEMENT: Rule = Rule(21);
 
-pub const CONST_DCL: u32 = 27;
+    pub const STATE_MEMBER: Rule = Rule(22);
 
-pub const CONST_TYPE: u32 = 28;
+    pub const INIT_DCL: Rule = Rule(23);
 
-pub const CONST_EXP: u32 = 29;
+    pub const INIT_PARAM_DECLS: Rule = Rule(24);
 
-pub const OR_EXPR: u32 = 30;
+    pub const INIT_PARAM_DECL: Rule = Rule(25);
 
-pub const XOR_EXPR: u32 = 31;
+    pub const INIT_PARAM_ATTRIBUTE: Rule = Rule(26);
 
-pub const AND_EXPR: u32 = 32;
+    pub const CONST_DCL: Rule = Rule(27);
 
-pub const SHIFT_EXPR: u32 = 33;
+    pub const CONST_TYPE: Rule = Rule(28);
 
-pub const ADD_EXPR: u32 = 34;
+    pub const CONST_EXP: Rule = Rule(29);
 
-pub const MULT_EXPR: u32 = 35;
+    pub const OR_EXPR: Rule = Rule(30);
 
-pub const UNARY_EXPR: u32 = 36;
+    pub const XOR_EXPR: Rule = Rule(31);
 
-pub const UNARY_OPERATOR: u32 = 37;
+    pub const AND_EXPR: Rule = Rule(32);
 
-pub const PRIMARY_EXPR: u32 = 38;
+    pub const SHIFT_EXPR: Rule = Rule(33);
 
-pub const LITERAL: u32 = 39;
+    pub const ADD_EXPR: Rule = Rule(34);
 
-pub const BOOLEAN_LITERAL: u32 = 40;
+    pub const MULT_EXPR: Rule = Rule(35);
 
-pub const POSITIVE_INT_CONST: u32 = 41;
+    pub const UNARY_EXPR: Rule = Rule(36);
 
-pub const TYPE_DCL: u32 = 42;
+    pub const UNARY_OPERATOR: Rule = Rule(37);
 
-pub const TYPE_DECLARATOR: u32 = 43;
+    pub const PRIMARY_EXPR: Rule = Rule(38);
 
-pub const TYPE_SPEC: u32 = 44;
+    pub const LITERAL: Rule = Rule(39);
 
-pub const SIMPLE_TYPE_SPEC: u32 = 45;
+    pub const BOOLEAN_LITERAL: Rule = Rule(40);
 
-pub const BASE_TYPE_SPEC: u32 = 46;
+    pub const POSITIVE_INT_CONST: Rule = Rule(41);
 
-pub const TEMPLATE_TYPE_SPEC: u32 = 47;
+    pub const TYPE_DCL: Rule = Rule(42);
 
-pub const CONSTR_TYPE_SPEC: u32 = 48;
+    pub const TYPE_DECLARATOR: Rule = Rule(43);
 
-pub const DECLARATORS: u32 = 49;
+    pub const TYPE_SPEC: Rule = Rule(44);
 
-pub const DECLARATOR: u32 = 50;
+    pub const SIMPLE_TYPE_SPEC: Rule = Rule(45);
 
-pub const SIMPLE_DECLARATOR: u32 = 51;
+    pub const BASE_TYPE_SPEC: Rule = Rule(46);
 
-pub const COMPLEX_DECLARATOR: u32 = 52;
+    pub const TEMPLATE_TYPE_SPEC: Rule = Rule(47);
 
-pub const FLOATING_PT_TYPE: u32 = 53;
+    pub const CONSTR_TYPE_SPEC: Rule = Rule(48);
 
-pub const INTEGER_TYPE: u32 = 54;
+    pub const DECLARATORS: Rule = Rule(49);
 
-pub const SIGNED_INT: u32 = 55;
+    pub const DECLARATOR: Rule = Rule(50);
 
-pub const SIGNED_SHORT_INT: u32 = 56;
+    pub const SIMPLE_DECLARATOR: Rule = Rule(51);
 
-pub const SIGNED_LONG_INT: u32 = 57;
+    pub const COMPLEX_DECLARATOR: Rule = Rule(52);
 
-pub const SIGNED_LONGLONG_INT: u32 = 58;
+    pub const FLOATING_PT_TYPE: Rule = Rule(53);
 
-pub const UNSIGNED_INT: u32 = 59;
+    pub const INTEGER_TYPE: Rule = Rule(54);
 
-pub const UNSIGNED_SHORT_INT: u32 = 60;
+    pub const SIGNED_INT: Rule = Rule(55);
 
-pub const UNSIGNED_LONG_INT: u32 = 61;
+    pub const SIGNED_SHORT_INT: Rule = Rule(56);
 
-pub const UNSIGNED_LONGLONG_INT: u32 = 62;
+    pub const SIGNED_LONG_INT: Rule = Rule(57);
 
-pub const CHAR_TYPE: u32 = 63;
+    pub const SIGNED_LONGLONG_INT: Rule = Rule(58);
 
-pub const WIDE_CHAR_TYPE: u32 = 64;
+    pub const UNSIGNED_INT: Rule = Rule(59);
 
-pub const BOOLEAN_TYPE: u32 = 65;
+    pub const UNSIGNED_SHORT_INT: Rule = Rule(60);
 
-pub const OCTET_TYPE: u32 = 66;
+    pub const UNSIGNED_LONG_INT: Rule = Rule(61);
 
-pub const ANY_TYPE: u32 = 67;
+    pub const UNSIGNED_LONGLONG_INT: Rule = Rule(62);
 
-pub const OBJECT_TYPE: u32 = 68;
+    pub const CHAR_TYPE: Rule = Rule(63);
 
-pub const STRUCT_TYPE: u32 = 69;
+    pub const WIDE_CHAR_TYPE: Rule = Rule(64);
 
-pub const MEMBER_LIST: u32 = 70;
+    pub const BOOLEAN_TYPE: Rule = Rule(65);
 
-pub const MEMBER: u32 = 71;
+    pub const OCTET_TYPE: Rule = Rule(66);
 
-pub const UNION_TYPE: u32 = 72;
+    pub const ANY_TYPE: Rule = Rule(67);
 
-pub const SWITCH_TYPE_SPEC: u32 = 73;
+    pub const OBJECT_TYPE: Rule = Rule(68);
 
-pub const SWITCH_BODY: u32 = 74;
+    pub const STRUCT_TYPE: Rule = Rule(69);
 
-pub const CASE: u32 = 75;
+    pub const MEMBER_LIST: Rule = Rule(70);
 
-pub const CASE_LABEL: u32 = 76;
+    pub const MEMBER: Rule = Rule(71);
 
-pub const ELEMENT_SPEC: u32 = 77;
+    pub const UNION_TYPE: Rule = Rule(72);
 
-pub const ENUM_TYPE: u32 = 78;
+    pub const SWITCH_TYPE_SPEC: Rule = Rule(73);
 
-pub const ENUMERATOR: u32 = 79;
+    pub const SWITCH_BODY: Rule = Rule(74);
 
-pub const SEQUENCE_TYPE: u32 = 80;
+    pub const CASE: Rule = Rule(75);
 
-pub const STRING_TYPE: u32 = 81;
+    pub const CASE_LABEL: Rule = Rule(76);
 
-pub const WIDE_STRING_TYPE: u32 = 82;
+    pub const ELEMENT_SPEC: Rule = Rule(77);
 
-pub const ARRAY_DECLARATOR: u32 = 83;
+    pub const ENUM_TYPE: Rule = Rule(78);
 
-pub const FIXED_ARRAY_SIZE: u32 = 84;
+    pub const ENUMERATOR: Rule = Rule(79);
 
-pub const ATTR_DCL: u32 = 85;
+    pub const SEQUENCE_TYPE: Rule = Rule(80);
 
-pub const EXCEPT_DCL: u32 = 86;
+    pub const STRING_TYPE: Rule = Rule(81);
 
-pub const OP_DCL: u32 = 87;
+    pub const WIDE_STRING_TYPE: Rule = Rule(82);
 
-pub const OP_ATTRIBUTE: u32 = 88;
+    pub const ARRAY_DECLARATOR: Rule = Rule(83);
 
-pub const OP_TYPE_SPEC: u32 = 89;
+    pub const FIXED_ARRAY_SIZE: Rule = Rule(84);
 
-pub const PARAMETER_DCLS: u32 = 90;
+    pub const ATTR_DCL: Rule = Rule(85);
 
-pub const PARAM_DCL: u32 = 91;
+    pub const EXCEPT_DCL: Rule = Rule(86);
 
-pub const PARAM_ATTRIBUTE: u32 = 92;
+    pub const OP_DCL: Rule = Rule(87);
 
-pub const RAISES_EXPR: u32 = 93;
+    pub const OP_ATTRIBUTE: Rule = Rule(88);
 
-pub const CONTEXT_EXPR: u32 = 94;
+    pub const OP_TYPE_SPEC: Rule = Rule(89);
 
-pub const PARAM_TYPE_SPEC: u32 = 95;
+    pub const PARAMETER_DCLS: Rule = Rule(90);
 
-pub const FIXED_PT_TYPE: u32 = 96;
+    pub const PARAM_DCL: Rule = Rule(91);
 
-pub const FIXED_PT_CONST_TYPE: u32 = 97;
+    pub const PARAM_ATTRIBUTE: Rule = Rule(92);
 
-pub const VALUE_BASE_TYPE: u32 = 98;
+    pub const RAISES_EXPR: Rule = Rule(93);
 
-pub const CONSTR_FORWARD_DECL: u32 = 99;
-
-const ALL: [u32; 99] = [
-    SPECIFICATION,
-    DEFINITION,
-    MODULE,
-    INTERFACE,
-    INTERFACE_DCL,
-    FORWARD_DCL,
-    INTERFACE_HEADER,
-    INTERFACE_BODY,
-    EXPORT,
-    INTERFACE_INHERITANCE_SPEC,
-    INTERFACE_NAME,
-    SCOPED_NAME,
-    VALUE,
-    VALUE_FORWARD_DCL,
-    VALUE_BOX_DCL,
-    VALUE_ABS_DCL,
-    VALUE_DCL,
-    VALUE_HEADER,
-    VALUE_INHERITANCE_SPEC,
-    VALUE_NAME,
-    VALUE_ELEMENT,
-    STATE_MEMBER,
-    INIT_DCL,
-    INIT_PARAM_DECLS,
-    INIT_PARAM_DECL,
-    INIT_PARAM_ATTRIBUTE,
-    CONST_DCL,
-    CONST_TYPE,
-    CONST_EXP,
-    OR_EXPR,
-    XOR_EXPR,
-    AND_EXPR,
-    SHIFT_EXPR,
-    ADD_EXPR,
-    MULT_EXPR,
-    UNARY_EXPR,
-    UNARY_OPERATOR,
-    PRIMARY_EXPR,
-    LITERAL,
-    BOOLEAN_LITERAL,
-    POSITIVE_INT_CONST,
-    TYPE_DCL,
-    TYPE_DECLARATOR,
-    TYPE_SPEC,
-    SIMPLE_TYPE_SPEC,
-    BASE_TYPE_SPEC,
-    TEMPLATE_TYPE_SPEC,
-    CONSTR_TYPE_SPEC,
-    DECLARATORS,
-    DECLARATOR,
-    SIMPLE_DECLARATOR,
-    COMPLEX_DECLARATOR,
-    FLOATING_PT_TYPE,
-    INTEGER_TYPE,
-    SIGNED_INT,
-    SIGNED_SHORT_INT,
-    SIGNED_LONG_INT,
-    SIGNED_LONGLONG_INT,
-    UNSIGNED_INT,
-    UNSIGNED_SHORT_INT,
-    UNSIGNED_LONG_INT,
-    UNSIGNED_LONGLONG_INT,
-    CHAR_TYPE,
-    WIDE_CHAR_TYPE,
-    BOOLEAN_TYPE,
-    OCTET_TYPE,
-    ANY_TYPE,
-    OBJECT_TYPE,
-    STRUCT_TYPE,
-    MEMBER_LIST,
-    MEMBER,
-    UNION_TYPE,
-    SWITCH_TYPE_SPEC,
-    SWITCH_BODY,
-    CASE,
-    CASE_LABEL,
-    ELEMENT_SPEC,
-    ENUM_TYPE,
-    ENUMERATOR,
-    SEQUENCE_TYPE,
-    STRING_TYPE,
-    WIDE_STRING_TYPE,
-    ARRAY_DECLARATOR,
-    FIXED_ARRAY_SIZE,
-    ATTR_DCL,
-    EXCEPT_DCL,
-    OP_DCL,
-    OP_ATTRIBUTE,
-    OP_TYPE_SPEC,
-    PARAMETER_DCLS,
-    PARAM_DCL,
-    PARAM_ATTRIBUTE,
-    RAISES_EXPR,
-    CONTEXT_EXPR,
-    PARAM_TYPE_SPEC,
-    FIXED_PT_TYPE,
-    FIXED_PT_CONST_TYPE,
-    VALUE_BASE_TYPE,
-    CONSTR_FORWARD_DECL,
-];
-
-// Every rule, in order.
-pub fn all() -> [u32; 99]
-    ensures { result ≡ all_rules }
-{
-    ALL
+    pub const CONTEXT_EXPR: Rule = Rule(94);
+
+    pub const PARAM_TYPE_SPEC: Rule = Rule(95);
+
+    pub const FIXED_PT_TYPE: Rule = Rule(96);
+
+    pub const FIXED_PT_CONST_TYPE: Rule = Rule(97);
+
+    pub const VALUE_BASE_TYPE: Rule = Rule(98);
+
+    pub const CONSTR_FORWARD_DECL: Rule = Rule(99);
+
+    const ALL: [Rule; 99] = [
+        Rule::SPECIFICATION,
+        Rule::DEFINITION,
+        Rule::MODULE,
+        Rule::INTERFACE,
+        Rule::INTERFACE_DCL,
+        Rule::FORWARD_DCL,
+        Rule::INTERFACE_HEADER,
+        Rule::INTERFACE_BODY,
+        Rule::EXPORT,
+        Rule::INTERFACE_INHERITANCE_SPEC,
+        Rule::INTERFACE_NAME,
+        Rule::SCOPED_NAME,
+        Rule::VALUE,
+        Rule::VALUE_FORWARD_DCL,
+        Rule::VALUE_BOX_DCL,
+        Rule::VALUE_ABS_DCL,
+        Rule::VALUE_DCL,
+        Rule::VALUE_HEADER,
+        Rule::VALUE_INHERITANCE_SPEC,
+        Rule::VALUE_NAME,
+        Rule::VALUE_ELEMENT,
+        Rule::STATE_MEMBER,
+        Rule::INIT_DCL,
+        Rule::INIT_PARAM_DECLS,
+        Rule::INIT_PARAM_DECL,
+        Rule::INIT_PARAM_ATTRIBUTE,
+        Rule::CONST_DCL,
+        Rule::CONST_TYPE,
+        Rule::CONST_EXP,
+        Rule::OR_EXPR,
+        Rule::XOR_EXPR,
+        Rule::AND_EXPR,
+        Rule::SHIFT_EXPR,
+        Rule::ADD_EXPR,
+        Rule::MULT_EXPR,
+        Rule::UNARY_EXPR,
+        Rule::UNARY_OPERATOR,
+        Rule::PRIMARY_EXPR,
+        Rule::LITERAL,
+        Rule::BOOLEAN_LITERAL,
+        Rule::POSITIVE_INT_CONST,
+        Rule::TYPE_DCL,
+        Rule::TYPE_DECLARATOR,
+        Rule::TYPE_SPEC,
+        Rule::SIMPLE_TYPE_SPEC,
+        Rule::BASE_TYPE_SPEC,
+        Rule::TEMPLATE_TYPE_SPEC,
+        Rule::CONSTR_TYPE_SPEC,
+        Rule::DECLARATORS,
+        Rule::DECLARATOR,
+        Rule::SIMPLE_DECLARATOR,
+        Rule::COMPLEX_DECLARATOR,
+        Rule::FLOATING_PT_TYPE,
+        Rule::INTEGER_TYPE,
+        Rule::SIGNED_INT,
+        Rule::SIGNED_SHORT_INT,
+        Rule::SIGNED_LONG_INT,
+        Rule::SIGNED_LONGLONG_INT,
+        Rule::UNSIGNED_INT,
+        Rule::UNSIGNED_SHORT_INT,
+        Rule::UNSIGNED_LONG_INT,
+        Rule::UNSIGNED_LONGLONG_INT,
+        Rule::CHAR_TYPE,
+        Rule::WIDE_CHAR_TYPE,
+        Rule::BOOLEAN_TYPE,
+        Rule::OCTET_TYPE,
+        Rule::ANY_TYPE,
+        Rule::OBJECT_TYPE,
+        Rule::STRUCT_TYPE,
+        Rule::MEMBER_LIST,
+        Rule::MEMBER,
+        Rule::UNION_TYPE,
+        Rule::SWITCH_TYPE_SPEC,
+        Rule::SWITCH_BODY,
+        Rule::CASE,
+        Rule::CASE_LABEL,
+        Rule::ELEMENT_SPEC,
+        Rule::ENUM_TYPE,
+        Rule::ENUMERATOR,
+        Rule::SEQUENCE_TYPE,
+        Rule::STRING_TYPE,
+        Rule::WIDE_STRING_TYPE,
+        Rule::ARRAY_DECLARATOR,
+        Rule::FIXED_ARRAY_SIZE,
+        Rule::ATTR_DCL,
+        Rule::EXCEPT_DCL,
+        Rule::OP_DCL,
+        Rule::OP_ATTRIBUTE,
+        Rule::OP_TYPE_SPEC,
+        Rule::PARAMETER_DCLS,
+        Rule::PARAM_DCL,
+        Rule::PARAM_ATTRIBUTE,
+        Rule::RAISES_EXPR,
+        Rule::CONTEXT_EXPR,
+        Rule::PARAM_TYPE_SPEC,
+        Rule::FIXED_PT_TYPE,
+        Rule::FIXED_PT_CONST_TYPE,
+        Rule::VALUE_BASE_TYPE,
+        Rule::CONSTR_FORWARD_DECL,
+    ];
+
+    // Every rule, in order.
+    pub fn all() -> [Rule; 99]
+        ensures { result ≡ all_rules }
+    {
+        Rule::ALL
+    }
+}
+
+impl From<u32> for Rule {
+    fn from(number: u32) -> Rule
+        ensures { result ≡ number }
+    {
+        Rule(number)
+    }
+}
+
+impl From<Rule> for u32 {
+    fn from(rule: Rule) -> u32
+        ensures { result ≡ rule }
+    {
+        rule.0
+    }
 }

@@ -1,255 +1,290 @@
-// The kinds of token by name: paper 01, "Kinds". The contract of `all` holds them to the definitions, in their order.
-ghost use Rattle.std.specs.Prelude.{◌≡◌};
+// The kinds of token. The contract of `all` holds their names to the definitions, in their order.
+ghost use Rattle.std.specs.Prelude.{◌≡◌, ℕ};
 ghost use Rattle.kinds.specs.Lists.{all_kinds};
 
-pub const IDENTIFIER: u32 = 1;
+use std::marker::Model;
 
-pub const INTEGER: u32 = 2;
+// A kind of token, by its number in a token table. It is no enum: a lent table may have any number where a kind stands.
+#[derive(Clone, Copy, PartialEq, Eq, PartialOrd, Ord)]
+pub struct Kind(u32);
 
-pub const FLOATING: u32 = 3;
+impl Model for Kind {
+    ghost Value = { ℕ };
 
-pub const FIXED_LITERAL: u32 = 4;
+    ghost view = { λ k. k.0 };
 
-pub const CHARACTER: u32 = 5;
+    ghost inverse = { λ n. record { 0 = n } };
+}
 
-pub const WIDE_CHARACTER: u32 = 6;
+impl Kind {
+    pub const IDENTIFIER: Kind = Kind(1);
 
-pub const STRING_LITERAL: u32 = 7;
+    pub const INTEGER: Kind = Kind(2);
 
-pub const WIDE_STRING_LITERAL: u32 = 8;
+    pub const FLOATING: Kind = Kind(3);
 
-pub const FALSE: u32 = 16;
+    pub const FIXED_LITERAL: Kind = Kind(4);
 
-pub const OBJECT: u32 = 17;
+    pub const CHARACTER: Kind = Kind(5);
 
-pub const TRUE: u32 = 18;
+    pub const WIDE_CHARACTER: Kind = Kind(6);
 
-pub const VALUE_BASE: u32 = 19;
+    pub const STRING_LITERAL: Kind = Kind(7);
 
-pub const ABSTRACT: u32 = 20;
+    pub const WIDE_STRING_LITERAL: Kind = Kind(8);
 
-pub const ANY: u32 = 21;
+    pub const FALSE: Kind = Kind(16);
 
-pub const ATTRIBUTE: u32 = 22;
+    pub const OBJECT: Kind = Kind(17);
 
-pub const BOOLEAN: u32 = 23;
+    pub const TRUE: Kind = Kind(18);
 
-pub const CASE: u32 = 24;
+    pub const VALUE_BASE: Kind = Kind(19);
 
-pub const CHAR: u32 = 25;
+    pub const ABSTRACT: Kind = Kind(20);
 
-pub const CONST: u32 = 26;
+    pub const ANY: Kind = Kind(21);
 
-pub const CONTEXT: u32 = 27;
+    pub const ATTRIBUTE: Kind = Kind(22);
 
-pub const CUSTOM: u32 = 28;
+    pub const BOOLEAN: Kind = Kind(23);
 
-pub const DEFAULT: u32 = 29;
+    pub const CASE: Kind = Kind(24);
 
-pub const DOUBLE: u32 = 30;
+    pub const CHAR: Kind = Kind(25);
 
-pub const ENUM: u32 = 31;
+    pub const CONST: Kind = Kind(26);
 
-pub const EXCEPTION: u32 = 32;
+    pub const CONTEXT: Kind = Kind(27);
 
-pub const FACTORY: u32 = 33;
+    pub const CUSTOM: Kind = Kind(28);
 
-pub const FIXED: u32 = 34;
+    pub const DEFAULT: Kind = Kind(29);
 
-pub const FLOAT: u32 = 35;
+    pub const DOUBLE: Kind = Kind(30);
 
-pub const IN: u32 = 36;
+    pub const ENUM: Kind = Kind(31);
 
-pub const INOUT: u32 = 37;
+    pub const EXCEPTION: Kind = Kind(32);
 
-pub const INTERFACE: u32 = 38;
+    pub const FACTORY: Kind = Kind(33);
 
-pub const LOCAL: u32 = 39;
+    pub const FIXED: Kind = Kind(34);
 
-pub const LONG: u32 = 40;
+    pub const FLOAT: Kind = Kind(35);
 
-pub const MODULE: u32 = 41;
+    pub const IN: Kind = Kind(36);
 
-pub const NATIVE: u32 = 42;
+    pub const INOUT: Kind = Kind(37);
 
-pub const OCTET: u32 = 43;
+    pub const INTERFACE: Kind = Kind(38);
 
-pub const ONEWAY: u32 = 44;
+    pub const LOCAL: Kind = Kind(39);
 
-pub const OUT: u32 = 45;
+    pub const LONG: Kind = Kind(40);
 
-pub const PRIVATE: u32 = 46;
+    pub const MODULE: Kind = Kind(41);
 
-pub const PUBLIC: u32 = 47;
+    pub const NATIVE: Kind = Kind(42);
 
-pub const RAISES: u32 = 48;
+    pub const OCTET: Kind = Kind(43);
 
-pub const READONLY: u32 = 49;
+    pub const ONEWAY: Kind = Kind(44);
 
-pub const SEQUENCE: u32 = 50;
+    pub const OUT: Kind = Kind(45);
 
-pub const SHORT: u32 = 51;
+    pub const PRIVATE: Kind = Kind(46);
 
-pub const STRING: u32 = 52;
+    pub const PUBLIC: Kind = Kind(47);
 
-pub const STRUCT: u32 = 53;
+    pub const RAISES: Kind = Kind(48);
 
-pub const SUPPORTS: u32 = 54;
+    pub const READONLY: Kind = Kind(49);
 
-pub const SWITCH: u32 = 55;
+    pub const SEQUENCE: Kind = Kind(50);
 
-pub const TRUNCATABLE: u32 = 56;
+    pub const SHORT: Kind = Kind(51);
 
-pub const TYPEDEF: u32 = 57;
+    pub const STRING: Kind = Kind(52);
 
-pub const UNION: u32 = 58;
+    pub const STRUCT: Kind = Kind(53);
 
-pub const UNSIGNED: u32 = 59;
+    pub const SUPPORTS: Kind = Kind(54);
 
-pub const VALUETYPE: u32 = 60;
+    pub const SWITCH: Kind = Kind(55);
 
-pub const VOID: u32 = 61;
+    pub const TRUNCATABLE: Kind = Kind(56);
 
-pub const WCHAR: u32 = 62;
+    pub const TYPEDEF: Kind = Kind(57);
 
-pub const WSTRING: u32 = 63;
+    pub const UNION: Kind = Kind(58);
 
-pub const LAST_KEYWORD: u32 = WSTRING;
+    pub const UNSIGNED: Kind = Kind(59);
 
-pub const SEMICOLON: u32 = 64;
+    pub const VALUETYPE: Kind = Kind(60);
 
-pub const OPEN_BRACE: u32 = 65;
+    pub const VOID: Kind = Kind(61);
 
-pub const CLOSE_BRACE: u32 = 66;
+    pub const WCHAR: Kind = Kind(62);
 
-pub const COLON: u32 = 67;
+    pub const WSTRING: Kind = Kind(63);
 
-pub const COMMA: u32 = 68;
+    pub const SEMICOLON: Kind = Kind(64);
 
-pub const SCOPE: u32 = 69;
-
-pub const EQUALS: u32 = 70;
-
-pub const OPEN_PARENTHESIS: u32 = 71;
-
-pub const CLOSE_PARENTHESIS: u32 = 72;
-
-pub const OPEN_ANGLE: u32 = 73;
-
-pub const CLOSE_ANGLE: u32 = 74;
-
-pub const OPEN_BRACKET: u32 = 75;
-
-pub const CLOSE_BRACKET: u32 = 76;
-
-pub const BAR: u32 = 77;
-
-pub const CARET: u32 = 78;
-
-pub const AMPERSAND: u32 = 79;
-
-pub const SHIFT_RIGHT: u32 = 80;
-
-pub const SHIFT_LEFT: u32 = 81;
-
-pub const PLUS: u32 = 82;
-
-pub const MINUS: u32 = 83;
-
-pub const STAR: u32 = 84;
-
-pub const SLASH: u32 = 85;
-
-pub const PERCENT: u32 = 86;
-
-pub const TILDE: u32 = 87;
-
-const ALL: [u32; 80] = [
-    IDENTIFIER,
-    INTEGER,
-    FLOATING,
-    FIXED_LITERAL,
-    CHARACTER,
-    WIDE_CHARACTER,
-    STRING_LITERAL,
-    WIDE_STRING_LITERAL,
-    FALSE,
-    OBJECT,
-    TRUE,
-    VALUE_BASE,
-    ABSTRACT,
-    ANY,
-    ATTRIBUTE,
-    BOOLEAN,
-    CASE,
-    CHAR,
-    CONST,
-    CONTEXT,
-    CUSTOM,
-    DEFAULT,
-    DOUBLE,
-    ENUM,
-    EXCEPTION,
-    FACTORY,
-    FIXED,
-    FLOAT,
-    IN,
-    INOUT,
-    INTERFACE,
-    LOCAL,
-    LONG,
-    MODULE,
-    NATIVE,
-    OCTET,
-    ONEWAY,
-    OUT,
-    PRIVATE,
-    PUBLIC,
-    RAISES,
-    READONLY,
-    SEQUENCE,
-    SHORT,
-    STRING,
-    STRUCT,
-    SUPPORTS,
-    SWITCH,
-    TRUNCATABLE,
-    TYPEDEF,
-    UNION,
-    UNSIGNED,
-    VALUETYPE,
-    VOID,
-    WCHAR,
-    WSTRING,
-    SEMICOLON,
-    OPEN_BRACE,
-    CLOSE_BRACE,
-    COLON,
-    COMMA,
-    SCOPE,
-    EQUALS,
-    OPEN_PARENTHESIS,
-    CLOSE_PARENTHESIS,
-    OPEN_ANGLE,
-    CLOSE_ANGLE,
-    OPEN_BRACKET,
-    CLOSE_BRACKET,
-    BAR,
-    CARET,
-    AMPERSAND,
-    SHIFT_RIGHT,
-    SHIFT_LEFT,
-    PLUS,
-    MINUS,
-    STAR,
-    SLASH,
-    PERCENT,
-    TILDE,
-];
-
-// Every kind, in order.
-pub fn all() -> [u32; 80]
-    ensures { result ≡ all_kinds }
-{
-    ALL
+    pub const OPEN_BRACE: Kind = Kind(65);
+
+    pub const CLOSE_BRACE: Kind = Kind(66);
+
+    pub const COLON: Kind = Kind(67);
+
+    pub const COMMA: Kind = Kind(68);
+
+    pub const SCOPE: Kind = Kind(69);
+
+    pub const EQUALS: Kind = Kind(70);
+
+    pub const OPEN_PARENTHESIS: Kind = Kind(71);
+
+    pub const CLOSE_PARENTHESIS: Kind = Kind(72);
+
+    pub const OPEN_ANGLE: Kind = Kind(73);
+
+    pub const CLOSE_ANGLE: Kind = Kind(74);
+
+    pub const OPEN_BRACKET: Kind = Kind(75);
+
+    pub const CLOSE_BRACKET: Kind = Kind(76);
+
+    pub const BAR: Kind = Kind(77);
+
+    pub const CARET: Kind = Kind(78);
+
+    pub const AMPERSAND: Kind = Kind(79);
+
+    pub const SHIFT_RIGHT: Kind = Kind(80);
+
+    pub const SHIFT_LEFT: Kind = Kind(81);
+
+    pub const PLUS: Kind = Kind(82);
+
+    pub const MINUS: Kind = Kind(83);
+
+    pub const STAR: Kind = Kind(84);
+
+    pub const SLASH: Kind = Kind(85);
+
+    pub const PERCENT: Kind = Kind(86);
+
+    pub const TILDE: Kind = Kind(87);
+
+    pub const LAST_KEYWORD: Kind = Kind::WSTRING;
+
+    // What stands past the last token: no kind.
+    pub const END: Kind = Kind(0);
+
+    const ALL: [Kind; 80] = [
+        Kind::IDENTIFIER,
+        Kind::INTEGER,
+        Kind::FLOATING,
+        Kind::FIXED_LITERAL,
+        Kind::CHARACTER,
+        Kind::WIDE_CHARACTER,
+        Kind::STRING_LITERAL,
+        Kind::WIDE_STRING_LITERAL,
+        Kind::FALSE,
+        Kind::OBJECT,
+        Kind::TRUE,
+        Kind::VALUE_BASE,
+        Kind::ABSTRACT,
+        Kind::ANY,
+        Kind::ATTRIBUTE,
+        Kind::BOOLEAN,
+        Kind::CASE,
+        Kind::CHAR,
+        Kind::CONST,
+        Kind::CONTEXT,
+        Kind::CUSTOM,
+        Kind::DEFAULT,
+        Kind::DOUBLE,
+        Kind::ENUM,
+        Kind::EXCEPTION,
+        Kind::FACTORY,
+        Kind::FIXED,
+        Kind::FLOAT,
+        Kind::IN,
+        Kind::INOUT,
+        Kind::INTERFACE,
+        Kind::LOCAL,
+        Kind::LONG,
+        Kind::MODULE,
+        Kind::NATIVE,
+        Kind::OCTET,
+        Kind::ONEWAY,
+        Kind::OUT,
+        Kind::PRIVATE,
+        Kind::PUBLIC,
+        Kind::RAISES,
+        Kind::READONLY,
+        Kind::SEQUENCE,
+        Kind::SHORT,
+        Kind::STRING,
+        Kind::STRUCT,
+        Kind::SUPPORTS,
+        Kind::SWITCH,
+        Kind::TRUNCATABLE,
+        Kind::TYPEDEF,
+        Kind::UNION,
+        Kind::UNSIGNED,
+        Kind::VALUETYPE,
+        Kind::VOID,
+        Kind::WCHAR,
+        Kind::WSTRING,
+        Kind::SEMICOLON,
+        Kind::OPEN_BRACE,
+        Kind::CLOSE_BRACE,
+        Kind::COLON,
+        Kind::COMMA,
+        Kind::SCOPE,
+        Kind::EQUALS,
+        Kind::OPEN_PARENTHESIS,
+        Kind::CLOSE_PARENTHESIS,
+        Kind::OPEN_ANGLE,
+        Kind::CLOSE_ANGLE,
+        Kind::OPEN_BRACKET,
+        Kind::CLOSE_BRACKET,
+        Kind::BAR,
+        Kind::CARET,
+        Kind::AMPERSAND,
+        Kind::SHIFT_RIGHT,
+        Kind::SHIFT_LEFT,
+        Kind::PLUS,
+        Kind::MINUS,
+        Kind::STAR,
+        Kind::SLASH,
+        Kind::PERCENT,
+        Kind::TILDE,
+    ];
+
+    // Every kind, in order.
+    pub fn all() -> [Kind; 80]
+        ensures { result ≡ all_kinds }
+    {
+        Kind::ALL
+    }
+}
+
+impl From<u32> for Kind {
+    fn from(number: u32) -> Kind
+        ensures { result ≡ number }
+    {
+        Kind(number)
+    }
+}
+
+impl From<Kind> for u32 {
+    fn from(kind: Kind) -> u32
+        ensures { result ≡ kind }
+    {
+        kind.0
+    }
 }

@@ -1,6 +1,6 @@
 -- Readers between an opening mark and its closing one, at one level of depth less.
 -- By the cases of the opening mark, and of the body and its closing mark. Assumes nothing.
-use Rattle.std.proofs.Common.{◌≡◌, ℕ, suc, ◌-◌, ◌<◌, Bool, true, false, leb, ◌⊎◌, List, [], ◌∷◌, sym, refl, ◌∙◌, subst, inl, inr, add-one, arith}
+use Rattle.std.proofs.Common.{◌≡◌, ℕ, suc, ◌-◌, ◌<◌, Bool, true, false, ◌⊎◌, List, [], ◌∷◌, sym, refl, ◌∙◌, subst, inl, inr, add-one, arith}
 use Rattle.grammar.specs.Forest.{Forest, leaf}
 use Rattle.grammar.specs.Record.{shape}
 use Rattle.grammar.specs.Sets.{elem}

@@ -1,5 +1,5 @@
 -- What the test whether reading has stopped tells. By its cases. Assumes nothing.
-use Rattle.std.proofs.Common.{◌≡◌, ℕ, Bool, true, false, not, T, eqb, sym, ◌∙◌, subst, eq-eqb, eqb→eq}
+use Rattle.std.proofs.Common.{◌≡◌, Bool, true, false, not, T, eqb, sym, ◌∙◌, subst, eq-eqb, eqb→eq}
 use Rattle.readers_core.specs.Reading.{Reading, halted}
 
 turned : (b : Bool) → not b ≡ false → T b

@@ -1,4 +1,5 @@
 pub mod Views
+pub mod Equality
 pub mod Halting
 pub mod Storing
 pub mod Sharing

@@ -1,7 +1,6 @@
 -- A reader's state in one number: what each step of the code does to its parts.
 -- By the arithmetic of its halves. Assumes nothing.
-use Rattle.std.proofs.Common.{◌≡◌, ℕ, ◌+◌, ◌-◌, ◌*◌, ◌/◌, ◌%◌, ◌<◌, ◌≤◌, Bool, true, false, cond, not, T, eqb, leb, sym, refl, ◌∙◌, subst, arith, leb→le, le-ltb, lt-ltb, eq-eqb, ne_eqb}
-use lib.Dec.{nleb→lt}
+use Rattle.std.proofs.Common.{◌≡◌, ℕ, ◌+◌, ◌-◌, ◌*◌, ◌/◌, ◌%◌, ◌<◌, ◌≤◌, Bool, true, false, cond, eqb, sym, refl, ◌∙◌, arith, le-ltb, lt-ltb, eq-eqb, ne_eqb}
 use Rattle.tables.specs.Tables.{token_width}
 use Rattle.readers_core.specs.Reading.{blaming, sunk, half, stop, step, deep_rest, blamed, too_deep, view, ceiling}
 

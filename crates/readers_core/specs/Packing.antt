@@ -1,5 +1,5 @@
 -- A reader's state goes into one number and back. By the cases of a stop and the arithmetic of the halves. Assumes nothing.
-use Rattle.std.proofs.Common.{◌≡◌, ℕ, ◌≤◌, ◌%◌, Bool, true, false, T, not, eqb, ltb, ◌⊎◌, inl, inr, refl, arith, le-ltb, lt-ltb, eq-eqb, ne_eqb, eqb→eq, ltb→lt, nltb→le}
+use Rattle.std.proofs.Common.{◌≡◌, ℕ, ◌≤◌, ◌%◌, T, not, eqb, ltb, ◌⊎◌, inl, inr, arith, le-ltb, lt-ltb, eq-eqb, ne_eqb, eqb→eq, ltb→lt, nltb→le}
 use lib.Dec.{T_not}
 use Rattle.prediction.proofs.Sets.{decide}
 use Rattle.readers_core.specs.Reading.{IsState, packed, view, stop, step, deep_rest}

@@ -8,6 +8,8 @@ ghost use Rattle.prediction.specs.plans.Plan.{token};
 ghost use Rattle.readers_core.specs.Reading.{IsKind, kind_at, ahead, half, stop, blaming, sunk, Addressable, view, halted};
 ghost use Rattle.readers_core.specs.Reading.{beginning, Stops, Takes, Opens, Closes};
 
+use grammar::Rule;
+use kinds::Kind;
 use std::marker::Model;
 
 // How far reading has come: the next token, the tree records so far, and whether it has stopped. It is one number, which travels in
@@ -68,14 +70,18 @@ fn blamed(state: u64) -> Reading
     requires { state < stop }
     ensures { Stops blaming (view state) result }
 {
-    Reading { state: state % HALF * STEP + BLAMED }
+    Reading {
+        state: state % HALF * STEP + BLAMED,
+    }
 }
 
 fn too_deep(state: u64) -> Reading
     requires { state < stop }
     ensures { Stops sunk (view state) result }
 {
-    Reading { state: state % HALF * STEP + TOO_DEEP }
+    Reading {
+        state: state % HALF * STEP + TOO_DEEP,
+    }
 }
 
 impl Reading {
@@ -141,35 +147,37 @@ impl<'a> Tokens<'a> {
     }
 
     // The kind of token i; that of the end past the last.
-    pub fn kind_at(&self, i: u32) -> u32
+    pub fn kind_at(&self, i: u32) -> Kind
         ensures kind { result ≡ kind_at self.now i }
         ensures addressable { Addressable self.now }
     {
         let place = tables::TOKEN_WIDTH * (i as usize);
         if place < self.table.len() {
-            self.table[place]
+            Kind::from(self.table[place])
         } else {
-            0
+            Kind::END
         }
     }
 
     // The kind of the next token; that of the end also where reading has stopped.
-    pub fn next_kind(&self, at: Reading) -> u32
+    pub fn next_kind(&self, at: Reading) -> Kind
         ensures { result ≡ ahead self.now at }
     {
         if STOP <= at.state {
-            return 0;
+            return Kind::END;
         }
         self.kind_at(low(at.state))
     }
 
     // Reads a token of the kind.
-    pub fn take(&self, at: Reading, kind: u32) -> Reading
+    pub fn take(&self, at: Reading, kind: Kind) -> Reading
         requires { IsKind kind }
         ensures { Takes self.now (token kind) at result }
     {
         if self.kind_at(low(at.state)) == kind {
-            return Reading { state: at.state + 1 };
+            return Reading {
+                state: at.state + 1,
+            };
         }
         if STOP <= at.state {
             return at;
@@ -178,13 +186,15 @@ impl<'a> Tokens<'a> {
     }
 
     // Reads an opening mark, where a level of depth is left.
-    pub fn open(&self, at: Reading, mark: u32, depth: u32) -> Reading
+    pub fn open(&self, at: Reading, mark: Kind, depth: u32) -> Reading
         requires { IsKind mark }
         ensures { Opens self.now depth mark at result }
     {
         if self.kind_at(low(at.state)) == mark {
             if 0 < depth {
-                return Reading { state: at.state + 1 };
+                return Reading {
+                    state: at.state + 1,
+                };
             }
             return too_deep(at.state);
         }
@@ -203,7 +213,7 @@ pub fn inner(depth: u32) -> u32
 }
 
 // What has been read since `start` becomes one node of the rule, which is recorded. The count has its ceiling below a stop.
-pub fn node(tree: &mut [u32], start: Reading, at: Reading, rule: u32) -> Reading
+pub fn node(tree: &mut [u32], start: Reading, at: Reading, rule: Rule) -> Reading
     ensures { Closes rule start (at, tree.old) (result, tree.new) }
 {
     if STOP <= at.state {
@@ -215,6 +225,13 @@ pub fn node(tree: &mut [u32], start: Reading, at: Reading, rule: u32) -> Reading
     }
     let place = high(at.state);
     let size = high(counted.wrapping_sub(start.state));
-    tables::put_node(tree, place as usize, rule, low(start.state), low(at.state), size);
+    tables::put_node(
+        tree,
+        place as usize,
+        u32::from(rule),
+        low(start.state),
+        low(at.state),
+        size,
+    );
     Reading { state: counted }
 }

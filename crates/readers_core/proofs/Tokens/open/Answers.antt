@@ -1,28 +1,29 @@
 -- `open` reads an opening mark: it moves on, blames, stops for depth, or passes a stop.
 -- By the tests, in the order of the cases. Assumes nothing.
 use Rattle.std.proofs.Common.{ℕ, sym, refl, ap, ◌∙◌, arith}
-use Rattle.readers_core.specs.Reading.{kind_at, view, opens_blamed, opens_deep, opens_stopped}
-use Rattle.readers_core.proofs.Frames.{low, opens_past, stays_low}
+use Rattle.readers_core.specs.Reading.{kind_at, opens_blamed, opens_stopped}
+use Rattle.readers_core.proofs.Equality.{differs, same}
+use Rattle.readers_core.proofs.Frames.{opens_past, stays_low}
 use Rattle.readers_core.proofs.Views.{goes_on, going_at, has_stopped}
 use Rattle.readers_core.proofs.Tokens.open.Goals as goal
 
 pub overflow_add-result : goal.overflow_add-result
 overflow_add-result c =
     let ks = c.args.self.now in
-    let there = sym (c.kind_at.ensures.kind ∙ ap (λ (i : ℕ). kind_at ks i) c.low.ensures) ∙ c.if-kind_at-mark.true in
+    let there = sym (c.kind_at.ensures.kind ∙ ap (λ (i : ℕ). kind_at ks i) c.low.ensures) ∙ same c.eq.ensures c.if-eq.true in
     omega (arith, stays_low ks c.args.mark c.at.inside.state c.kind_at.ensures.addressable c.requires c.at.invariant there)
 
 pub invariant_of-result : goal.invariant_of-result
 invariant_of-result c =
     let ks = c.args.self.now in
-    let there = sym (c.kind_at.ensures.kind ∙ ap (λ (i : ℕ). kind_at ks i) c.low.ensures) ∙ c.if-kind_at-mark.true in
+    let there = sym (c.kind_at.ensures.kind ∙ ap (λ (i : ℕ). kind_at ks i) c.low.ensures) ∙ same c.eq.ensures c.if-eq.true in
     let low = stays_low ks c.args.mark c.at.inside.state c.kind_at.ensures.addressable c.requires c.at.invariant there in
     λ l. omega (arith, l, low)
 
 pub returns-then-depth-gt0 : goal.returns-then-depth-gt0
 returns-then-depth-gt0 c =
     let ks = c.args.self.now in
-    let there = sym (c.kind_at.ensures.kind ∙ ap (λ (i : ℕ). kind_at ks i) c.low.ensures) ∙ c.if-kind_at-mark.true in
+    let there = sym (c.kind_at.ensures.kind ∙ ap (λ (i : ℕ). kind_at ks i) c.low.ensures) ∙ same c.eq.ensures c.if-eq.true in
     rw (← c.at.view_is) (opens_past ks c.args.mark c.at.inside.state c.kind_at.ensures.addressable c.requires c.at.invariant there
     c.if-depth-gt0.true)
 
@@ -34,5 +35,5 @@ returns c =
     let s = c.at.inside.state in
     let going = c.if-at-ge-STOP.false in
     let found = c.kind_at.ensures.kind ∙ ap (λ (i : ℕ). kind_at c.args.self.now i) (c.low.ensures ∙ sym (going_at s going)) in
-    rw (← c.at.view_is) (opens_blamed (goes_on s going) (λ e. c.if-kind_at-mark.false (found ∙ e)) c.blamed.ensures.answers
+    rw (← c.at.view_is) (opens_blamed (goes_on s going) (λ e. differs c.eq.ensures c.if-eq.false (found ∙ e)) c.blamed.ensures.answers
     c.blamed.ensures.places)

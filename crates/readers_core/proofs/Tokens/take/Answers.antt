@@ -1,7 +1,8 @@
 -- `take` reads by the plan of one token: it moves on, blames the token that is there, or passes a stop.
 -- A token that is there stands in the table, so the place still fits its half. Assumes nothing.
 use Rattle.std.proofs.Common.{ℕ, sym, ap, ◌∙◌, arith}
-use Rattle.readers_core.specs.Reading.{kind_at, view}
+use Rattle.readers_core.specs.Reading.{kind_at}
+use Rattle.readers_core.proofs.Equality.{differs, same}
 use Rattle.readers_core.proofs.Frames.{moves_past, stays_low}
 use Rattle.readers_core.proofs.Sequence.{missed, stays}
 use Rattle.readers_core.proofs.Views.{goes_on, going_at, has_stopped}
@@ -10,20 +11,20 @@ use Rattle.readers_core.proofs.Tokens.take.Goals as goal
 pub overflow_add-result : goal.overflow_add-result
 overflow_add-result c =
     let ks = c.args.self.now in
-    let there = sym (c.kind_at.ensures.kind ∙ ap (λ (i : ℕ). kind_at ks i) c.low.ensures) ∙ c.if-kind_at-kind.true in
+    let there = sym (c.kind_at.ensures.kind ∙ ap (λ (i : ℕ). kind_at ks i) c.low.ensures) ∙ same c.eq.ensures c.if-eq.true in
     omega (arith, stays_low ks c.args.kind c.at.inside.state c.kind_at.ensures.addressable c.requires c.at.invariant there)
 
 pub invariant_of-result : goal.invariant_of-result
 invariant_of-result c =
     let ks = c.args.self.now in
-    let there = sym (c.kind_at.ensures.kind ∙ ap (λ (i : ℕ). kind_at ks i) c.low.ensures) ∙ c.if-kind_at-kind.true in
+    let there = sym (c.kind_at.ensures.kind ∙ ap (λ (i : ℕ). kind_at ks i) c.low.ensures) ∙ same c.eq.ensures c.if-eq.true in
     let low = stays_low ks c.args.kind c.at.inside.state c.kind_at.ensures.addressable c.requires c.at.invariant there in
     λ l. omega (arith, l, low)
 
-pub returns-then-kind_at-kind : goal.returns-then-kind_at-kind
-returns-then-kind_at-kind c =
+pub returns-then-eq : goal.returns-then-eq
+returns-then-eq c =
     let ks = c.args.self.now in
-    let there = sym (c.kind_at.ensures.kind ∙ ap (λ (i : ℕ). kind_at ks i) c.low.ensures) ∙ c.if-kind_at-kind.true in
+    let there = sym (c.kind_at.ensures.kind ∙ ap (λ (i : ℕ). kind_at ks i) c.low.ensures) ∙ same c.eq.ensures c.if-eq.true in
     rw (← c.at.view_is) (record {
       reads = λ d w. record {
         in_any = λ start hs.
@@ -45,6 +46,7 @@ returns c =
     rw (← c.at.view_is) (record {
       reads = λ d w. record {
         in_any = λ start hs.
-            missed (goes_on s going) (λ e. c.if-kind_at-kind.false (found ∙ e)) c.blamed.ensures.answers c.blamed.ensures.places;
+            missed (goes_on s going) (λ e. differs c.eq.ensures c.if-eq.false (found ∙ e)) c.blamed.ensures.answers
+            c.blamed.ensures.places;
       };
     })
