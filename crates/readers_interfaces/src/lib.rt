@@ -6,172 +6,163 @@ ghost use Rattle.std.specs.Prelude.{◌≡◌};
 ghost use Rattle.grammar.specs.Sets.{elem};
 ghost use Rattle.readers_core.specs.Notation.{<◌>, ◌*};
 ghost use Rattle.readers_core.specs.Course.{one};
-ghost use Rattle.readers_core.specs.Reading.{Addressable, Flat, Reads, Within};
+ghost use Rattle.readers_core.specs.Reading.{Flat, Reads, Within};
 ghost use Rattle.readers_interfaces.specs.Plans.{ReadsNames, optional_bases, exported, interface_rest};
 ghost use Rattle.readers_interfaces.specs.Plans.{type_dcl_starts, export_starts};
 
-use grammar::rule;
-use kinds::kind;
-use readers_core::{Reading, inner, next_kind, node, open, take};
+use grammar::Rule;
+use kinds::Kind;
+use readers_core::{Reading, Tokens, inner, node};
 use readers_names::scoped_name;
 use readers_operations::{attr_dcl, op_dcl};
 use readers_structs::{const_dcl, except_dcl, type_dcl};
 
 // One or more of (11) interface_name or (20) value_name, with commas between them: a scoped name each, and no record more.
-pub fn scoped_names(tokens: &[u32], tree: &mut [u32], at: Reading) -> Reading
-    requires { Addressable tokens.now }
+pub fn scoped_names(tokens: &Tokens, tree: &mut [u32], at: Reading) -> Reading
     ensures { ReadsNames tokens.now (at, tree.old) (result, tree.new) }
 {
-    let mut names = scoped_name(&*tokens, tree, at);
-    while next_kind(tokens, names) == kind::COMMA {
-        let comma = take(tokens, names, kind::COMMA);
-        names = scoped_name(&*tokens, tree, comma);
+    let mut names = scoped_name(tokens, tree, at);
+    while tokens.next_kind(names) == Kind::COMMA {
+        let comma = tokens.take(names, Kind::COMMA);
+        names = scoped_name(tokens, tree, comma);
     }
     names
 }
 
 // (10) interface_inheritance_spec
-fn interface_inheritance_spec(tokens: &[u32], tree: &mut [u32], at: Reading) -> Reading
-    requires { Addressable tokens.now }
+fn interface_inheritance_spec(tokens: &Tokens, tree: &mut [u32], at: Reading) -> Reading
     ensures { Flat one tokens.now < "interface_inheritance_spec" > (at, tree.old) (result, tree.new) }
 {
-    let colon = take(tokens, at, kind::COLON);
-    let names = scoped_names(&*tokens, tree, colon);
-    node(tree, at, names, rule::INTERFACE_INHERITANCE_SPEC)
+    let colon = tokens.take(at, Kind::COLON);
+    let names = scoped_names(tokens, tree, colon);
+    node(tree, at, names, Rule::INTERFACE_INHERITANCE_SPEC)
 }
 
 // The bases of an interface, if any.
-fn bases(tokens: &[u32], tree: &mut [u32], at: Reading) -> Reading
-    requires { Addressable tokens.now }
+fn bases(tokens: &Tokens, tree: &mut [u32], at: Reading) -> Reading
     ensures { Flat one tokens.now optional_bases (at, tree.old) (result, tree.new) }
 {
-    let next = next_kind(tokens, at);
+    let next = tokens.next_kind(at);
     match next {
-        kind::COLON => interface_inheritance_spec(&*tokens, tree, at),
+        Kind::COLON => interface_inheritance_spec(tokens, tree, at),
         _ => at,
     }
 }
 
 // Whether (42) type_dcl may start with a token of the kind. Kinds that are neighbours stand in different arms, here and in the
 // other tests of what starts a rule: a row of them in one arm is compiled into tests of its ends.
-pub fn starts_type_dcl(kind: u32) -> bool
+pub fn starts_type_dcl(kind: Kind) -> bool
     ensures { result ≡ elem kind type_dcl_starts }
 {
     match kind {
-        kind::TYPEDEF | kind::STRUCT | kind::ENUM | kind::NATIVE => true,
-        kind::UNION => true,
+        Kind::TYPEDEF | Kind::STRUCT | Kind::ENUM | Kind::NATIVE => true,
+        Kind::UNION => true,
         _ => false,
     }
 }
 
 // Whether (9) export may start with a token of the kind.
-pub fn starts_export(kind: u32) -> bool
+pub fn starts_export(kind: Kind) -> bool
     ensures { result ≡ elem kind export_starts }
 {
-    if kind::LAST_KEYWORD < kind {
-        return kind == kind::SCOPE;
+    if Kind::LAST_KEYWORD < kind {
+        return kind == Kind::SCOPE;
     }
     match kind {
-        kind::TYPEDEF | kind::STRUCT | kind::ENUM | kind::NATIVE => true,
-        kind::UNION | kind::CONST | kind::EXCEPTION | kind::READONLY | kind::ATTRIBUTE => true,
-        kind::ONEWAY | kind::VOID | kind::STRING | kind::WSTRING | kind::IDENTIFIER => true,
-        kind::FLOAT
-        | kind::DOUBLE
-        | kind::LONG
-        | kind::SHORT
-        | kind::UNSIGNED
-        | kind::CHAR
-        | kind::WCHAR => true,
-        kind::BOOLEAN | kind::OCTET | kind::ANY | kind::OBJECT | kind::VALUE_BASE => true,
+        Kind::TYPEDEF | Kind::STRUCT | Kind::ENUM | Kind::NATIVE => true,
+        Kind::UNION | Kind::CONST | Kind::EXCEPTION | Kind::READONLY | Kind::ATTRIBUTE => true,
+        Kind::ONEWAY | Kind::VOID | Kind::STRING | Kind::WSTRING | Kind::IDENTIFIER => true,
+        Kind::FLOAT
+        | Kind::DOUBLE
+        | Kind::LONG
+        | Kind::SHORT
+        | Kind::UNSIGNED
+        | Kind::CHAR
+        | Kind::WCHAR => true,
+        Kind::BOOLEAN | Kind::OCTET | Kind::ANY | Kind::OBJECT | Kind::VALUE_BASE => true,
         _ => false,
     }
 }
 
 // What is exported, with its ";".
-fn exported(tokens: &[u32], tree: &mut [u32], at: Reading, depth: u32) -> Reading
-    requires { Addressable tokens.now }
+fn exported(tokens: &Tokens, tree: &mut [u32], at: Reading, depth: u32) -> Reading
     ensures { Reads one tokens.now depth exported (at, tree.old) (result, tree.new) }
 {
-    let next = next_kind(tokens, at);
+    let next = tokens.next_kind(at);
     if starts_type_dcl(next) {
-        let declaration = type_dcl(&*tokens, tree, at, depth);
-        return take(tokens, declaration, kind::SEMICOLON);
+        let declaration = type_dcl(tokens, tree, at, depth);
+        return tokens.take(declaration, Kind::SEMICOLON);
     }
     match next {
-        kind::CONST => {
-            let declaration = const_dcl(&*tokens, tree, at, depth);
-            take(tokens, declaration, kind::SEMICOLON)
+        Kind::CONST => {
+            let declaration = const_dcl(tokens, tree, at, depth);
+            tokens.take(declaration, Kind::SEMICOLON)
         }
-        kind::EXCEPTION => {
-            let declaration = except_dcl(&*tokens, tree, at, depth);
-            take(tokens, declaration, kind::SEMICOLON)
+        Kind::EXCEPTION => {
+            let declaration = except_dcl(tokens, tree, at, depth);
+            tokens.take(declaration, Kind::SEMICOLON)
         }
-        kind::READONLY | kind::ATTRIBUTE => {
-            let declaration = attr_dcl(&*tokens, tree, at, depth);
-            take(tokens, declaration, kind::SEMICOLON)
+        Kind::READONLY | Kind::ATTRIBUTE => {
+            let declaration = attr_dcl(tokens, tree, at, depth);
+            tokens.take(declaration, Kind::SEMICOLON)
         }
         _ => {
-            let declaration = op_dcl(&*tokens, tree, at, depth);
-            take(tokens, declaration, kind::SEMICOLON)
+            let declaration = op_dcl(tokens, tree, at, depth);
+            tokens.take(declaration, Kind::SEMICOLON)
         }
     }
 }
 
 // (9) export
-pub fn export(tokens: &[u32], tree: &mut [u32], at: Reading, depth: u32) -> Reading
-    requires { Addressable tokens.now }
+pub fn export(tokens: &Tokens, tree: &mut [u32], at: Reading, depth: u32) -> Reading
     ensures { Reads one tokens.now depth < "export" > (at, tree.old) (result, tree.new) }
 {
-    let exported = exported(&*tokens, tree, at, depth);
-    node(tree, at, exported, rule::EXPORT)
+    let exported = exported(tokens, tree, at, depth);
+    node(tree, at, exported, Rule::EXPORT)
 }
 
 // Exports, as many as there are.
-pub fn exports(tokens: &[u32], tree: &mut [u32], at: Reading, depth: u32) -> Reading
-    requires { Addressable tokens.now }
+pub fn exports(tokens: &Tokens, tree: &mut [u32], at: Reading, depth: u32) -> Reading
     ensures { Reads one tokens.now depth (< "export" > *) (at, tree.old) (result, tree.new) }
 {
     let mut read = at;
-    while starts_export(next_kind(tokens, read)) {
-        read = export(&*tokens, tree, read, depth);
+    while starts_export(tokens.next_kind(read)) {
+        read = export(tokens, tree, read, depth);
     }
     read
 }
 
 // (8) interface_body
-fn interface_body(tokens: &[u32], tree: &mut [u32], at: Reading, depth: u32) -> Reading
-    requires { Addressable tokens.now }
+fn interface_body(tokens: &Tokens, tree: &mut [u32], at: Reading, depth: u32) -> Reading
     ensures { Reads one tokens.now depth < "interface_body" > (at, tree.old) (result, tree.new) }
 {
-    let exports = exports(&*tokens, tree, at, depth);
-    node(tree, at, exports, rule::INTERFACE_BODY)
+    let exports = exports(tokens, tree, at, depth);
+    node(tree, at, exports, Rule::INTERFACE_BODY)
 }
 
 // (4) interface, from "interface" on: (5) interface_dcl, whose (7) interface_header ends behind its bases, or
 // (6) forward_dcl.
 pub fn interface(
-    tokens: &[u32],
+    tokens: &Tokens,
     tree: &mut [u32],
     start: Reading,
     at: Reading,
     depth: u32,
 ) -> Reading
-    requires { Addressable tokens.now }
     ensures { Within one tokens.now depth start interface_rest (at, tree.old) (result, tree.new) }
 {
-    let tokens = &*tokens;
-    let word = take(tokens, at, kind::INTERFACE);
-    let name = take(tokens, word, kind::IDENTIFIER);
-    let next = next_kind(tokens, name);
+    let word = tokens.take(at, Kind::INTERFACE);
+    let name = tokens.take(word, Kind::IDENTIFIER);
+    let next = tokens.next_kind(name);
     match next {
-        kind::COLON | kind::OPEN_BRACE => {
-            let bases = bases(&*tokens, tree, name);
-            let header = node(tree, start, bases, rule::INTERFACE_HEADER);
-            let inside = open(tokens, header, kind::OPEN_BRACE, depth);
-            let body = interface_body(&*tokens, tree, inside, inner(depth));
-            let whole = take(tokens, body, kind::CLOSE_BRACE);
-            node(tree, start, whole, rule::INTERFACE_DCL)
+        Kind::COLON | Kind::OPEN_BRACE => {
+            let bases = bases(tokens, tree, name);
+            let header = node(tree, start, bases, Rule::INTERFACE_HEADER);
+            let inside = tokens.open(header, Kind::OPEN_BRACE, depth);
+            let body = interface_body(tokens, tree, inside, inner(depth));
+            let whole = tokens.take(body, Kind::CLOSE_BRACE);
+            node(tree, start, whole, Rule::INTERFACE_DCL)
         }
-        _ => node(tree, start, name, rule::FORWARD_DCL),
+        _ => node(tree, start, name, Rule::FORWARD_DCL),
     }
 }

@@ -4,242 +4,229 @@
 ghost use Rattle.prediction.specs.plans.Plan.{call};
 ghost use Rattle.readers_core.specs.Notation.{<◌>, further, list_of};
 ghost use Rattle.readers_core.specs.Course.{one};
-ghost use Rattle.readers_core.specs.Reading.{Addressable, Flat, Reads, Takes};
+ghost use Rattle.readers_core.specs.Reading.{Flat, Reads, Takes};
 ghost use Rattle.readers_operations.specs.Plans.{Listed, further_strings, optional_parameters};
 ghost use Rattle.readers_operations.specs.Plans.{optional_raises, optional_context, optional_oneway};
 ghost use Rattle.readers_operations.specs.Plans.{optional_readonly};
 
-use grammar::rule;
-use kinds::kind;
-use readers_core::{Reading, inner, next_kind, node, open, take};
+use grammar::Rule;
+use kinds::Kind;
+use readers_core::{Reading, Tokens, inner, node};
 use readers_names::{is_one_of, one_of_three, one_token, scoped_name, string_literal};
 use readers_types::param_type_spec;
 
 // (89) op_type_spec
-fn op_type_spec(tokens: &[u32], tree: &mut [u32], at: Reading, depth: u32) -> Reading
-    requires { Addressable tokens.now }
+fn op_type_spec(tokens: &Tokens, tree: &mut [u32], at: Reading, depth: u32) -> Reading
     ensures { Reads one tokens.now depth < "op_type_spec" > (at, tree.old) (result, tree.new) }
 {
-    let next = next_kind(tokens, at);
-    if next == kind::VOID {
-        let word = take(tokens, at, kind::VOID);
-        return node(tree, at, word, rule::OP_TYPE_SPEC);
+    let next = tokens.next_kind(at);
+    if next == Kind::VOID {
+        let word = tokens.take(at, Kind::VOID);
+        return node(tree, at, word, Rule::OP_TYPE_SPEC);
     }
-    param_type_spec(&*tokens, tree, at, depth)
+    param_type_spec(tokens, tree, at, depth)
 }
 
 // (91) param_dcl, with its (92) param_attribute
-fn param_dcl(tokens: &[u32], tree: &mut [u32], at: Reading, depth: u32) -> Reading
-    requires { Addressable tokens.now }
+fn param_dcl(tokens: &Tokens, tree: &mut [u32], at: Reading, depth: u32) -> Reading
     ensures { Reads one tokens.now depth < "param_dcl" > (at, tree.old) (result, tree.new) }
 {
     let direction = one_of_three(
-        &*tokens,
+        tokens,
         tree,
         at,
-        kind::IN,
-        kind::OUT,
-        kind::INOUT,
-        rule::PARAM_ATTRIBUTE,
+        Kind::IN,
+        Kind::OUT,
+        Kind::INOUT,
+        Rule::PARAM_ATTRIBUTE,
     );
-    let spec = param_type_spec(&*tokens, tree, direction, depth);
+    let spec = param_type_spec(tokens, tree, direction, depth);
     let name = one_token(
-        &*tokens,
+        tokens,
         tree,
         spec,
-        kind::IDENTIFIER,
-        rule::SIMPLE_DECLARATOR,
+        Kind::IDENTIFIER,
+        Rule::SIMPLE_DECLARATOR,
     );
-    node(tree, at, name, rule::PARAM_DCL)
+    node(tree, at, name, Rule::PARAM_DCL)
 }
 
 // (25) init_param_decl; (26) init_param_attribute and (51) simple_declarator are one token each.
-fn init_param_decl(tokens: &[u32], tree: &mut [u32], at: Reading, depth: u32) -> Reading
-    requires { Addressable tokens.now }
+fn init_param_decl(tokens: &Tokens, tree: &mut [u32], at: Reading, depth: u32) -> Reading
     ensures { Reads one tokens.now depth < "init_param_decl" > (at, tree.old) (result, tree.new) }
 {
-    let word = one_token(&*tokens, tree, at, kind::IN, rule::INIT_PARAM_ATTRIBUTE);
-    let spec = param_type_spec(&*tokens, tree, word, depth);
+    let word = one_token(tokens, tree, at, Kind::IN, Rule::INIT_PARAM_ATTRIBUTE);
+    let spec = param_type_spec(tokens, tree, word, depth);
     let name = one_token(
-        &*tokens,
+        tokens,
         tree,
         spec,
-        kind::IDENTIFIER,
-        rule::SIMPLE_DECLARATOR,
+        Kind::IDENTIFIER,
+        Rule::SIMPLE_DECLARATOR,
     );
-    node(tree, at, name, rule::INIT_PARAM_DECL)
+    node(tree, at, name, Rule::INIT_PARAM_DECL)
 }
 
 // What stands in a list: (12) scoped_name, (51) simple_declarator, (91) param_dcl or (25) init_param_decl.
-fn item(tokens: &[u32], tree: &mut [u32], at: Reading, depth: u32, rule: u32) -> Reading
-    requires { Addressable tokens.now × Listed rule }
+fn item(tokens: &Tokens, tree: &mut [u32], at: Reading, depth: u32, rule: Rule) -> Reading
+    requires { Listed rule }
     ensures { Reads one tokens.now depth (call rule) (at, tree.old) (result, tree.new) }
 {
     match rule {
-        rule::SCOPED_NAME => scoped_name(&*tokens, tree, at),
-        rule::SIMPLE_DECLARATOR => one_token(
-            &*tokens,
+        Rule::SCOPED_NAME => scoped_name(tokens, tree, at),
+        Rule::SIMPLE_DECLARATOR => one_token(
+            tokens,
             tree,
             at,
-            kind::IDENTIFIER,
-            rule::SIMPLE_DECLARATOR,
+            Kind::IDENTIFIER,
+            Rule::SIMPLE_DECLARATOR,
         ),
-        rule::PARAM_DCL => param_dcl(&*tokens, tree, at, depth),
-        _ => init_param_decl(&*tokens, tree, at, depth),
+        Rule::PARAM_DCL => param_dcl(tokens, tree, at, depth),
+        _ => init_param_decl(tokens, tree, at, depth),
     }
 }
 
 // More of a list, each behind a comma.
-fn further(tokens: &[u32], tree: &mut [u32], at: Reading, depth: u32, rule: u32) -> Reading
-    requires { Addressable tokens.now × Listed rule }
+fn further(tokens: &Tokens, tree: &mut [u32], at: Reading, depth: u32, rule: Rule) -> Reading
+    requires { Listed rule }
     ensures { Reads one tokens.now depth (further rule) (at, tree.old) (result, tree.new) }
 {
     let mut listed = at;
-    while next_kind(tokens, listed) == kind::COMMA {
-        let comma = take(tokens, listed, kind::COMMA);
-        listed = item(&*tokens, tree, comma, depth, rule);
+    while tokens.next_kind(listed) == Kind::COMMA {
+        let comma = tokens.take(listed, Kind::COMMA);
+        listed = item(tokens, tree, comma, depth, rule);
     }
     listed
 }
 
 // A list: one at least.
-fn list(tokens: &[u32], tree: &mut [u32], at: Reading, depth: u32, rule: u32) -> Reading
-    requires { Addressable tokens.now × Listed rule }
+fn list(tokens: &Tokens, tree: &mut [u32], at: Reading, depth: u32, rule: Rule) -> Reading
+    requires { Listed rule }
     ensures { Reads one tokens.now depth (list_of rule) (at, tree.old) (result, tree.new) }
 {
-    let first = item(&*tokens, tree, at, depth, rule);
-    further(&*tokens, tree, first, depth, rule)
+    let first = item(tokens, tree, at, depth, rule);
+    further(tokens, tree, first, depth, rule)
 }
 
 // (24) init_param_decls: one alone leaves no record.
-pub fn init_param_decls(tokens: &[u32], tree: &mut [u32], at: Reading, depth: u32) -> Reading
-    requires { Addressable tokens.now }
+pub fn init_param_decls(tokens: &Tokens, tree: &mut [u32], at: Reading, depth: u32) -> Reading
     ensures { Reads one tokens.now depth < "init_param_decls" > (at, tree.old) (result, tree.new) }
 {
-    let first = init_param_decl(&*tokens, tree, at, depth);
-    let next = next_kind(tokens, first);
-    if next == kind::COMMA {
-        let listed = further(&*tokens, tree, first, depth, rule::INIT_PARAM_DECL);
-        return node(tree, at, listed, rule::INIT_PARAM_DECLS);
+    let first = init_param_decl(tokens, tree, at, depth);
+    let next = tokens.next_kind(first);
+    if next == Kind::COMMA {
+        let listed = further(tokens, tree, first, depth, Rule::INIT_PARAM_DECL);
+        return node(tree, at, listed, Rule::INIT_PARAM_DECLS);
     }
     first
 }
 
 // Parameters, if any.
-fn parameters(tokens: &[u32], tree: &mut [u32], at: Reading, depth: u32) -> Reading
-    requires { Addressable tokens.now }
+fn parameters(tokens: &Tokens, tree: &mut [u32], at: Reading, depth: u32) -> Reading
     ensures { Reads one tokens.now depth optional_parameters (at, tree.old) (result, tree.new) }
 {
-    let next = next_kind(tokens, at);
-    if is_one_of(next, kind::IN, kind::OUT, kind::INOUT) {
-        return list(&*tokens, tree, at, depth, rule::PARAM_DCL);
+    let next = tokens.next_kind(at);
+    if is_one_of(next, Kind::IN, Kind::OUT, Kind::INOUT) {
+        return list(tokens, tree, at, depth, Rule::PARAM_DCL);
     }
     at
 }
 
 // (90) parameter_dcls
-fn parameter_dcls(tokens: &[u32], tree: &mut [u32], at: Reading, depth: u32) -> Reading
-    requires { Addressable tokens.now }
+fn parameter_dcls(tokens: &Tokens, tree: &mut [u32], at: Reading, depth: u32) -> Reading
     ensures { Reads one tokens.now depth < "parameter_dcls" > (at, tree.old) (result, tree.new) }
 {
-    let inside = open(tokens, at, kind::OPEN_PARENTHESIS, depth);
-    let listed = parameters(&*tokens, tree, inside, inner(depth));
-    let closed = take(tokens, listed, kind::CLOSE_PARENTHESIS);
-    node(tree, at, closed, rule::PARAMETER_DCLS)
+    let inside = tokens.open(at, Kind::OPEN_PARENTHESIS, depth);
+    let listed = parameters(tokens, tree, inside, inner(depth));
+    let closed = tokens.take(listed, Kind::CLOSE_PARENTHESIS);
+    node(tree, at, closed, Rule::PARAMETER_DCLS)
 }
 
 // (93) raises_expr, or nothing.
-fn raises(tokens: &[u32], tree: &mut [u32], at: Reading, depth: u32) -> Reading
-    requires { Addressable tokens.now }
+fn raises(tokens: &Tokens, tree: &mut [u32], at: Reading, depth: u32) -> Reading
     ensures { Reads one tokens.now depth optional_raises (at, tree.old) (result, tree.new) }
 {
-    let next = next_kind(tokens, at);
-    if next == kind::RAISES {
-        let word = take(tokens, at, kind::RAISES);
-        let inside = open(tokens, word, kind::OPEN_PARENTHESIS, depth);
-        let names = list(&*tokens, tree, inside, inner(depth), rule::SCOPED_NAME);
-        let closed = take(tokens, names, kind::CLOSE_PARENTHESIS);
-        return node(tree, at, closed, rule::RAISES_EXPR);
+    let next = tokens.next_kind(at);
+    if next == Kind::RAISES {
+        let word = tokens.take(at, Kind::RAISES);
+        let inside = tokens.open(word, Kind::OPEN_PARENTHESIS, depth);
+        let names = list(tokens, tree, inside, inner(depth), Rule::SCOPED_NAME);
+        let closed = tokens.take(names, Kind::CLOSE_PARENTHESIS);
+        return node(tree, at, closed, Rule::RAISES_EXPR);
     }
     at
 }
 
 // String literals, each behind a comma.
-fn further_strings(tokens: &[u32], at: Reading) -> Reading
-    requires { Addressable tokens.now }
+fn further_strings(tokens: &Tokens, at: Reading) -> Reading
     ensures { Takes tokens.now further_strings at result }
 {
     let mut listed = at;
-    while next_kind(tokens, listed) == kind::COMMA {
-        let comma = take(tokens, listed, kind::COMMA);
-        listed = string_literal(&*tokens, comma, kind::STRING_LITERAL);
+    while tokens.next_kind(listed) == Kind::COMMA {
+        let comma = tokens.take(listed, Kind::COMMA);
+        listed = string_literal(tokens, comma, Kind::STRING_LITERAL);
     }
     listed
 }
 
 // (94) context_expr, or nothing.
-fn context(tokens: &[u32], tree: &mut [u32], at: Reading, depth: u32) -> Reading
-    requires { Addressable tokens.now }
+fn context(tokens: &Tokens, tree: &mut [u32], at: Reading, depth: u32) -> Reading
     ensures { Reads one tokens.now depth optional_context (at, tree.old) (result, tree.new) }
 {
-    let next = next_kind(tokens, at);
-    if next == kind::CONTEXT {
-        let word = take(tokens, at, kind::CONTEXT);
-        let inside = open(tokens, word, kind::OPEN_PARENTHESIS, depth);
-        let first = string_literal(&*tokens, inside, kind::STRING_LITERAL);
-        let listed = further_strings(&*tokens, first);
-        let closed = take(tokens, listed, kind::CLOSE_PARENTHESIS);
-        return node(tree, at, closed, rule::CONTEXT_EXPR);
+    let next = tokens.next_kind(at);
+    if next == Kind::CONTEXT {
+        let word = tokens.take(at, Kind::CONTEXT);
+        let inside = tokens.open(word, Kind::OPEN_PARENTHESIS, depth);
+        let first = string_literal(tokens, inside, Kind::STRING_LITERAL);
+        let listed = further_strings(tokens, first);
+        let closed = tokens.take(listed, Kind::CLOSE_PARENTHESIS);
+        return node(tree, at, closed, Rule::CONTEXT_EXPR);
     }
     at
 }
 
 // (88) op_attribute, or nothing.
-fn oneway(tokens: &[u32], tree: &mut [u32], at: Reading) -> Reading
-    requires { Addressable tokens.now }
+fn oneway(tokens: &Tokens, tree: &mut [u32], at: Reading) -> Reading
     ensures { Flat one tokens.now optional_oneway (at, tree.old) (result, tree.new) }
 {
-    let next = next_kind(tokens, at);
-    if next == kind::ONEWAY {
-        return one_token(&*tokens, tree, at, kind::ONEWAY, rule::OP_ATTRIBUTE);
+    let next = tokens.next_kind(at);
+    if next == Kind::ONEWAY {
+        return one_token(tokens, tree, at, Kind::ONEWAY, Rule::OP_ATTRIBUTE);
     }
     at
 }
 
 // (87) op_dcl
-pub fn op_dcl(tokens: &[u32], tree: &mut [u32], at: Reading, depth: u32) -> Reading
-    requires { Addressable tokens.now }
+pub fn op_dcl(tokens: &Tokens, tree: &mut [u32], at: Reading, depth: u32) -> Reading
     ensures { Reads one tokens.now depth < "op_dcl" > (at, tree.old) (result, tree.new) }
 {
-    let attribute = oneway(&*tokens, tree, at);
-    let spec = op_type_spec(&*tokens, tree, attribute, depth);
-    let name = take(tokens, spec, kind::IDENTIFIER);
-    let taking = parameter_dcls(&*tokens, tree, name, depth);
-    let raising = raises(&*tokens, tree, taking, depth);
-    let whole = context(&*tokens, tree, raising, depth);
-    node(tree, at, whole, rule::OP_DCL)
+    let attribute = oneway(tokens, tree, at);
+    let spec = op_type_spec(tokens, tree, attribute, depth);
+    let name = tokens.take(spec, Kind::IDENTIFIER);
+    let taking = parameter_dcls(tokens, tree, name, depth);
+    let raising = raises(tokens, tree, taking, depth);
+    let whole = context(tokens, tree, raising, depth);
+    node(tree, at, whole, Rule::OP_DCL)
 }
 
 // "readonly", or nothing.
-fn readonly(tokens: &[u32], at: Reading) -> Reading
-    requires { Addressable tokens.now }
+fn readonly(tokens: &Tokens, at: Reading) -> Reading
     ensures { Takes tokens.now optional_readonly at result }
 {
-    let next = next_kind(tokens, at);
-    if next == kind::READONLY {
-        return take(tokens, at, kind::READONLY);
+    let next = tokens.next_kind(at);
+    if next == Kind::READONLY {
+        return tokens.take(at, Kind::READONLY);
     }
     at
 }
 
 // (85) attr_dcl
-pub fn attr_dcl(tokens: &[u32], tree: &mut [u32], at: Reading, depth: u32) -> Reading
-    requires { Addressable tokens.now }
+pub fn attr_dcl(tokens: &Tokens, tree: &mut [u32], at: Reading, depth: u32) -> Reading
     ensures { Reads one tokens.now depth < "attr_dcl" > (at, tree.old) (result, tree.new) }
 {
-    let word = readonly(&*tokens, at);
-    let words = take(tokens, word, kind::ATTRIBUTE);
-    let spec = param_type_spec(&*tokens, tree, words, depth);
-    let names = list(&*tokens, tree, spec, depth, rule::SIMPLE_DECLARATOR);
-    node(tree, at, names, rule::ATTR_DCL)
+    let word = readonly(tokens, at);
+    let words = tokens.take(word, Kind::ATTRIBUTE);
+    let spec = param_type_spec(tokens, tree, words, depth);
+    let names = list(tokens, tree, spec, depth, Rule::SIMPLE_DECLARATOR);
+    node(tree, at, names, Rule::ATTR_DCL)
 }
