@@ -16,7 +16,7 @@ use Rattle.prediction.proofs.plans.Plan.{same_plan_equal}
 use Rattle.prediction.proofs.Sets.{and_left, and_right, each_at}
 use Rattle.prediction.specs.Sets.{each}
 use Rattle.readers_core.specs.Course.{Course, one, table_in}
-use Rattle.readers_core.specs.Reading.{Closes, FlatFollows, From, IsKind, Reads, State, Takes, ahead}
+use Rattle.readers_core.specs.Reading.{Reading, Closes, FlatFollows, From, IsKind, Reads, State, Takes, ahead}
 use Rattle.readers_core.specs.Reading.{all_recorded, several}
 use Rattle.readers_core.proofs.Choosing.{AnyOf, NoneOf, among, any_elem}
 use Rattle.readers_core.proofs.Frames.{comes_to, coming, passed_by, passes_on}
@@ -25,7 +25,7 @@ use Rattle.readers_core.proofs.Shapes.{leaves}
 use Rattle.readers_names.specs.Plans.{rule_in, word_rule}
 
 -- a word, and the node that it makes behind what was read since `start`
-pub read_word : {R : Course} {ks : List ℕ} {d start k r n s t u : ℕ} {hs w w' : List ℕ} → R.code r ≡ n →
+pub read_word : {R : Course} {ks : List ℕ} {d : ℕ} {start : Reading} {k r n : ℕ} {s t u : Reading} {hs w w' : List ℕ} → R.code r ≡ n →
     T (all_recorded R r several) → Takes ks (token k) s t → Closes n start (t, w) (u, w') →
     From R ks d start hs (seq (token k) (wrap r)) (s, w) (u, w')
 unfolding leaves
@@ -58,7 +58,7 @@ unfoldable pub comes_as : (a : Plan) (p : ℕ → Plan) (k : ℕ) → Bool
 unfolding computing
 comes_as a p k = comes_to one (among (k ∷ [])) a (p k)
 
-pub chosen_by : {a : Plan} (p : ℕ → Plan) (ls : List ℕ) {ks : List ℕ} {d x start : ℕ} {hs : List ℕ} {s s' : State} →
+pub chosen_by : {a : Plan} (p : ℕ → Plan) (ls : List ℕ) {ks : List ℕ} {d x : ℕ} {start : Reading} {hs : List ℕ} {s s' : State} →
     x ≡ ahead ks s.0 → AnyOf ls x → T (each (comes_as a p) ls) → From one ks d start hs (p x) s s' →
     From one ks d start hs a s s'
 unfolding comes_as
@@ -84,7 +84,7 @@ unfoldable pub passes_word : (n : ℕ) (ls : List ℕ) → Bool
 unfolding computing plans_of
 passes_word n ls = passes_on one n word_rule ls && each (plans_of word_rule one_word) ls
 
-pub by_word : (n : ℕ) (ls : List ℕ) {ks : List ℕ} {d x s u r : ℕ} {w w' : List ℕ} → x ≡ ahead ks s → AnyOf ls x →
+pub by_word : (n : ℕ) (ls : List ℕ) {ks : List ℕ} {d x : ℕ} {s u : Reading} {r : ℕ} {w w' : List ℕ} → x ≡ ahead ks s → AnyOf ls x →
     r ≡ word_rule x → T (passes_word n ls) → FlatFollows ks r (one_word x) (s, w) (u, w') →
     Reads one ks d (call n) (s, w) (u, w')
 unfolding passes_word

@@ -1,5 +1,6 @@
 -- The readers of expressions, which call each other, meet their contracts: each reads its rule as its plan is.
 -- The remaining depth falls at "(", and at one depth the level rises with each operation. Assumes nothing.
+use Rattle.std.proofs.Common.{rules}
 use Rattle.readers_core.proofs.Computing.{computing}
 use Rattle.kinds.specs.Kinds.{identifier}
 use Rattle.kinds.specs.Lists.{only}
@@ -104,16 +105,16 @@ parenthesized-returns t c =
     c.take.ensures
 
 -- a name, a literal or an expression in parentheses, as the next kind tells
-pub primary-returns-in-1 : goal.primary-returns-in-1
+pub primary-returns-in-IDENTIFIER : goal.primary-returns-in-IDENTIFIER
 unfolding computing
-primary-returns-in-1 t c =
+primary-returns-in-IDENTIFIER t c =
     passed_on (rule "primary_expr") (among (identifier ∷ only "::")) c.next_kind-next.ensures
-    c.in-1.is refl tt (c.scoped_name.ensures.at_any _)
+    (search rules) refl tt (c.scoped_name.ensures.at_any _)
 
-pub primary-returns-in-71 : goal.primary-returns-in-71
+pub primary-returns-in-OPEN_PARENTHESIS : goal.primary-returns-in-OPEN_PARENTHESIS
 unfolding computing
-primary-returns-in-71 t c =
-    frame_on (rule "primary_expr") (among (only "(")) c.next_kind-next.ensures c.in-71.is
+primary-returns-in-OPEN_PARENTHESIS t c =
+    frame_on (rule "primary_expr") (among (only "(")) c.next_kind-next.ensures (omega arith)
     (c.parenthesized-group.ensures.in_any _ _ ▸
     c.node.ensures.wraps refl _ _ _ tt)
 
@@ -121,7 +122,7 @@ pub primary-returns-in_default : goal.primary-returns-in_default
 unfolding computing
 primary-returns-in_default t c =
     passed_on (rule "primary_expr") (except (only "(" ∷ (identifier ∷ only "::") ∷ [])) c.next_kind-next.ensures
-    c.in_default.in_default-own.rest refl tt (c.literal.ensures.at_any _)
+    (omega arith) refl tt (c.literal.ensures.at_any _)
 
 -- an operand with its sign in a frame of its own, or an operand alone
 pub unary-returns-then-signed : goal.unary-returns-then-signed

@@ -10,32 +10,32 @@ use mathlib.Core.Path.{refl}
 use native.Mathlib.Omega.{arith}
 use Rattle.readers_expressions.proofs.level_of.Goals as goal
 
-pub returns-in-77 : goal.returns-in-77
+pub returns-in-BAR : goal.returns-in-BAR
 unfolding level_of
-returns-in-77 c = rw c.in-77.is refl
+returns-in-BAR c = rw (omega arith) refl
 
-pub returns-in-78 : goal.returns-in-78
+pub returns-in-CARET : goal.returns-in-CARET
 unfolding level_of
-returns-in-78 c = rw c.in-78.is refl
+returns-in-CARET c = rw (omega arith) refl
 
-pub returns-in-79 : goal.returns-in-79
+pub returns-in-AMPERSAND : goal.returns-in-AMPERSAND
 unfolding level_of
-returns-in-79 c = rw c.in-79.is refl
+returns-in-AMPERSAND c = rw (omega arith) refl
 
-pub returns-in-80 : goal.returns-in-80
+pub returns-in-SHIFT_RIGHT : goal.returns-in-SHIFT_RIGHT
 unfolding level_of each row
-returns-in-80 c =
+returns-in-SHIFT_RIGHT c =
     let x = c.args.kind in
     in_row (rule "shift_expr") (kind_of ">>") (kind_of "<<") x tt
     (omega arith) (omega arith)
 
-pub returns-in-82 : goal.returns-in-82
+pub returns-in-PLUS : goal.returns-in-PLUS
 unfolding level_of each row
-returns-in-82 c = in_row (rule "add_expr") (kind_of "+") (kind_of "-") c.args.kind tt (omega arith) (omega arith)
+returns-in-PLUS c = in_row (rule "add_expr") (kind_of "+") (kind_of "-") c.args.kind tt (omega arith) (omega arith)
 
-pub returns-in-84 : goal.returns-in-84
+pub returns-in-STAR : goal.returns-in-STAR
 unfolding level_of each row
-returns-in-84 c = in_row (rule "mult_expr") (kind_of "*") (kind_of "%") c.args.kind tt (omega arith) (omega arith)
+returns-in-STAR c = in_row (rule "mult_expr") (kind_of "*") (kind_of "%") c.args.kind tt (omega arith) (omega arith)
 
 pub returns-in_default : goal.returns-in_default
 returns-in_default c = outside _ (inl (omega arith))

@@ -1,5 +1,6 @@
 -- `bases` reads by its plan: ":" tells that bases are there.
 -- What the plan comes to is what was called. Assumes nothing.
+use Rattle.std.proofs.Common.{◌∙◌, arith}
 use Rattle.readers_core.proofs.Computing.{computing}
 use Rattle.kinds.specs.Lists.{only}
 use Rattle.readers_core.proofs.Choosing.{among, except}
@@ -7,15 +8,15 @@ use Rattle.readers_core.proofs.Parts.{left_out, picked}
 use mathlib.Core.List.{[], ◌∷◌}
 use Rattle.readers_interfaces.proofs.bases.Goals as goal
 
-pub returns-in-67 : goal.returns-in-67
+pub returns-in-COLON : goal.returns-in-COLON
 unfolding computing
-returns-in-67 c =
+returns-in-COLON c =
     record {
-      at_any = λ d. picked (among (only ":")) c.next_kind-next.ensures c.in-67.is
+      at_any = λ d. picked (among (only ":")) c.next_kind-next.ensures (omega arith)
           (c.interface_inheritance_spec.ensures.at_any d);
     }
 
 pub returns-in_default : goal.returns-in_default
 unfolding computing
 returns-in_default c =
-    record { at_any = λ d. picked (except (only ":" ∷ [])) c.next_kind-next.ensures c.in_default.in_default-own.rest left_out }
+    record { at_any = λ d. picked (except (only ":" ∷ [])) c.next_kind-next.ensures (omega arith) left_out }

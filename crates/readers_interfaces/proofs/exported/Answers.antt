@@ -1,5 +1,7 @@
 -- `exported` reads by its plan: the kind ahead tells the choice.
 -- What the plan comes to is what was called. Assumes nothing.
+use Rattle.std.proofs.Common.{rules}
+use Rattle.std.proofs.Common.{◌∙◌, arith}
 use Rattle.readers_core.proofs.Computing.{computing}
 use Rattle.kinds.specs.Lists.{kinds_of, only}
 use Rattle.readers_core.proofs.Choosing.{among, except}
@@ -16,30 +18,30 @@ returns-then-starts_type_dcl c =
     (is_in type_dcl_starts _ c.starts_type_dcl.ensures c.if-starts_type_dcl.true)
     (c.type_dcl-declaration.ensures then c.take.ensures.reads _ _)
 
-pub returns-in-26 : goal.returns-in-26
+pub returns-in-CONST : goal.returns-in-CONST
 unfolding computing
-returns-in-26 c =
-    picked (among (only "const")) c.next_kind-next.ensures c.in-26.is
-    (c.const_dcl-declaration.ensures then c.take-in-26.ensures.reads _ _)
+returns-in-CONST c =
+    picked (among (only "const")) c.next_kind-next.ensures (omega arith)
+    (c.const_dcl-declaration.ensures then c.take-in-CONST.ensures.reads _ _)
 
-pub returns-in-32 : goal.returns-in-32
+pub returns-in-EXCEPTION : goal.returns-in-EXCEPTION
 unfolding computing
-returns-in-32 c =
-    picked (among (only "exception")) c.next_kind-next.ensures c.in-32.is
-    (c.except_dcl-declaration.ensures then c.take-in-32.ensures.reads _ _)
+returns-in-EXCEPTION c =
+    picked (among (only "exception")) c.next_kind-next.ensures (omega arith)
+    (c.except_dcl-declaration.ensures then c.take-in-EXCEPTION.ensures.reads _ _)
 
-pub returns-in-49 : goal.returns-in-49
+pub returns-in-READONLY : goal.returns-in-READONLY
 unfolding computing
-returns-in-49 c =
-    picked (among (kinds_of ("attribute" ∷ "readonly" ∷ []))) c.next_kind-next.ensures c.in-49.is
-    (c.attr_dcl-declaration.ensures then c.take-in-49.ensures.reads _ _)
+returns-in-READONLY c =
+    picked (among (kinds_of ("attribute" ∷ "readonly" ∷ []))) c.next_kind-next.ensures (search rules)
+    (c.attr_dcl-declaration.ensures then c.take-in-READONLY.ensures.reads _ _)
 
 pub returns-in_default : goal.returns-in_default
 unfolding computing
 returns-in_default c =
     picked (except (type_dcl_starts ∷ kinds_of ("attribute" ∷ "readonly" ∷ []) ∷ only "exception" ∷ only "const" ∷ []))
     c.next_kind-next.ensures (
-      c.in_default.in_default-own.rest,
+      (omega arith),
       (is_out type_dcl_starts _ c.starts_type_dcl.ensures c.if-starts_type_dcl.false).1,
     )
     (c.op_dcl-declaration.ensures then c.take-in_default.ensures.reads _ _)

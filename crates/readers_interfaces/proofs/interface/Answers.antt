@@ -1,5 +1,7 @@
 -- `interface` reads by its plan: ":" or "{" tells that a body is there, and else the declaration is a forward one.
 -- What the plan comes to is what was called; rule 4 leaves no record. Assumes nothing.
+use Rattle.std.proofs.Common.{rules}
+use Rattle.std.proofs.Common.{arith}
 use Rattle.readers_core.proofs.Computing.{computing}
 use Rattle.kinds.specs.Lists.{kinds_of}
 use Rattle.readers_core.proofs.Choosing.{among, except}
@@ -7,15 +9,15 @@ use Rattle.readers_core.proofs.Frames.{chosen}
 use Rattle.readers_core.proofs.Groups.{between}
 use Rattle.readers_core.proofs.Sequence.{◌▸◌, unrecorded}
 use Rattle.readers_core.proofs.Parts.{named}
-use mathlib.Core.Path.{refl}
+use mathlib.Core.Path.{◌∙◌, refl}
 use mathlib.Core.List.{[], ◌∷◌}
 use Rattle.readers_interfaces.proofs.interface.Goals as goal
 
-pub returns-in-67 : goal.returns-in-67
+pub returns-in-COLON : goal.returns-in-COLON
 unfolding computing
-returns-in-67 c =
+returns-in-COLON c =
     named c.take-word.ensures c.take-name.ensures
-    (chosen (among (kinds_of ("{" ∷ ":" ∷ []))) c.next_kind-next.ensures c.in-67.is
+    (chosen (among (kinds_of ("{" ∷ ":" ∷ []))) c.next_kind-next.ensures (search rules)
     (((c.bases-bases.ensures.at_any _).in_any _ _ ▸ c.node-header.ensures.wraps refl _ _ _ tt ▸
     (between c.open-inside.ensures c.inner.ensures c.interface_body-body.ensures c.take-whole.ensures).in_any _ _ ▸
     c.node.ensures.wraps refl _ _ _ tt) ▸ unrecorded tt))
@@ -24,5 +26,5 @@ pub returns-in_default : goal.returns-in_default
 unfolding computing
 returns-in_default c =
     named c.take-word.ensures c.take-name.ensures
-    (chosen (except (kinds_of ("{" ∷ ":" ∷ []) ∷ [])) c.next_kind-next.ensures c.in_default.in_default-own.rest
+    (chosen (except (kinds_of ("{" ∷ ":" ∷ []) ∷ [])) c.next_kind-next.ensures (omega arith)
     (c.node-in_default.ensures.wraps refl _ _ _ tt ▸ unrecorded tt))

@@ -1,5 +1,6 @@
 -- `scoped_names` reads names with commas between them, by any rule that is a scoped name alone and so leaves no record.
 -- The part read so far as a continuation; what is left to read falls. Assumes nothing.
+use Rattle.readers_core.proofs.Equality.{differs, same}
 use Rattle.readers_core.proofs.Computing.{computing}
 use Rattle.kinds.specs.Lists.{only}
 use Rattle.readers_core.specs.Course.{one}
@@ -15,7 +16,7 @@ pub loop-comma-smaller : goal.loop-comma-smaller
 unfolding computing
 loop-comma-smaller c =
     falls {R = one} {start = 0} (among (only ",")) c.next_kind.ensures
-    c.loop-comma-test.true tt
+    (same c.eq.ensures c.loop-comma-test.true) tt
     ((c.take-comma.ensures.reads 0 _ then
     by_name interface_names (c.scoped_name-names-in-loop-comma.ensures.at_any 0)).in_any 0)
 
@@ -23,7 +24,7 @@ pub loop-comma-preserved : goal.loop-comma-preserved
 unfolding computing
 loop-comma-preserved c = (
   c.scoped_name-names-in-loop-comma.auto.tree ∙ c.loop-comma.invariant.0,
-  λ n d start h. far_more (among (only ",")) c.next_kind.ensures c.loop-comma-test.true tt
+  λ n d start h. far_more (among (only ",")) c.next_kind.ensures (same c.eq.ensures c.loop-comma-test.true) tt
       ((c.take-comma.ensures.reads d _ then by_name h
       (c.scoped_name-names-in-loop-comma.ensures.at_any d)).in_any start)
       (c.loop-comma.invariant.1 n d start h),
@@ -35,7 +36,7 @@ returns c =
     record {
       by_rule = λ n h. record {
         at_any = λ d. by_name h (c.scoped_name-names.ensures.at_any d) then record {
-          in_any = λ start. far_over (except (only "," ∷ [])) c.next_kind.ensures (tt, c.loop-comma-test.false) tt
+          in_any = λ start. far_over (except (only "," ∷ [])) c.next_kind.ensures (tt, (differs c.eq.ensures c.loop-comma-test.false)) tt
               (c.loop-comma.invariant.1 n d start h);
         };
       };

@@ -1,5 +1,6 @@
 -- `starts_export` tells whether a kind is among those that rule 9 may start with.
 -- Above the words by one test, and up to there by the patterns of the match. Assumes nothing.
+use Rattle.std.proofs.Common.{rules}
 use Rattle.kinds.specs.Kinds.{identifier, kind_of}
 use Rattle.kinds.specs.Lists.{kinds_of, only}
 use Rattle.grammar.specs.Sets.{elem}
@@ -32,28 +33,28 @@ unfolding AnyOf NoneOf below flat subset elem
 returns-then-kind-gt-LAST_KEYWORD c =
     only_last (kind_of "wstring") low_export_starts (kind_of "::") _ tt c.if-kind-gt-LAST_KEYWORD.true
 
-pub returns-in-57 : goal.returns-in-57
+pub returns-in-TYPEDEF : goal.returns-in-TYPEDEF
 unfolding AnyOf NoneOf below flat subset elem
-returns-in-57 c = starts types export_starts _ tt c.in-57.is
+returns-in-TYPEDEF c = starts types export_starts _ tt (search rules)
 
-pub returns-in-58 : goal.returns-in-58
+pub returns-in-UNION : goal.returns-in-UNION
 unfolding AnyOf NoneOf below flat subset elem
-returns-in-58 c = starts others export_starts _ tt c.in-58.is
+returns-in-UNION c = starts others export_starts _ tt (search rules)
 
-pub returns-in-44 : goal.returns-in-44
+pub returns-in-ONEWAY : goal.returns-in-ONEWAY
 unfolding AnyOf NoneOf below flat subset elem
-returns-in-44 c = starts results export_starts _ tt c.in-44.is
+returns-in-ONEWAY c = starts results export_starts _ tt (search rules)
 
-pub returns-in-35 : goal.returns-in-35
+pub returns-in-FLOAT : goal.returns-in-FLOAT
 unfolding AnyOf NoneOf below flat subset elem
-returns-in-35 c = starts numbers export_starts _ tt c.in-35.is
+returns-in-FLOAT c = starts numbers export_starts _ tt (search rules)
 
-pub returns-in-23 : goal.returns-in-23
+pub returns-in-BOOLEAN : goal.returns-in-BOOLEAN
 unfolding AnyOf NoneOf below flat subset elem
-returns-in-23 c = starts rest export_starts _ tt c.in-23.is
+returns-in-BOOLEAN c = starts rest export_starts _ tt (search rules)
 
 pub returns-in_default : goal.returns-in_default
 unfolding AnyOf NoneOf below flat subset elem
 returns-in_default c =
     starts_not (only "::" ∷ rest ∷ numbers ∷ results ∷ others ∷ types ∷ []) export_starts _ tt
-    (c.in_default.in_default-own.rest, λ e. omega (arith, c.if-kind-gt-LAST_KEYWORD.false, e))
+    ((omega arith), λ e. omega (arith, c.if-kind-gt-LAST_KEYWORD.false, e))

@@ -1,5 +1,6 @@
 -- `boolean_literal` reads rule 40 in a frame of its own: the kind ahead tells the choice.
 -- Its calls are put together as its plan is. Assumes nothing.
+use Rattle.std.proofs.Common.{arith}
 use Rattle.readers_core.proofs.Computing.{computing}
 use Rattle.kinds.specs.Lists.{only}
 use Rattle.grammar.specs.Names.{rule}
@@ -10,12 +11,12 @@ use mathlib.Core.List.{[], ◌∷◌}
 use mathlib.Core.Path.{refl}
 use Rattle.readers_names.proofs.boolean_literal.Goals as goal
 
-pub returns-in-18 : goal.returns-in-18
+pub returns-in-TRUE : goal.returns-in-TRUE
 unfolding computing
-returns-in-18 c =
+returns-in-TRUE c =
     record {
       at_any = λ d. frame_on (rule "boolean_literal") (among (only "TRUE")) c.next_kind-next.ensures
-          c.in-18.is (read_word refl tt c.take-word.ensures c.node.ensures);
+          (omega arith) (read_word refl tt c.take-word.ensures c.node.ensures);
     }
 
 pub returns-in_default : goal.returns-in_default
@@ -23,5 +24,5 @@ unfolding computing
 returns-in_default c =
     record {
       at_any = λ d. frame_on (rule "boolean_literal") (except (only "TRUE" ∷ [])) c.next_kind-next.ensures
-          c.in_default.in_default-own.rest (read_word refl tt c.take-word-in_default.ensures c.node-in_default.ensures);
+          (omega arith) (read_word refl tt c.take-word-in_default.ensures c.node-in_default.ensures);
     }

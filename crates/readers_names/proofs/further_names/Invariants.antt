@@ -7,9 +7,9 @@ use lib.ListN.{length}
 use mathlib.Core.Path.{◌≡◌}
 use Rattle.readers_names.proofs.further_names.Given as goal
 
-abbrev pub invariant-loop-mark : goal.invariant-loop-mark
-invariant-loop-mark l =
-    (length l.tree ≡ length l.initial.tree) × ((d : ℕ) → Far one l.tokens d l.start further_name (l.at, l.initial.tree) (l.names, l.tree))
+abbrev pub invariant-loop-start : goal.invariant-loop-start
+invariant-loop-start l =
+    (length l.tree ≡ length l.initial.tree) × ((d : ℕ) → Far one l.tokens d l.start further_name (l.initial.names, l.initial.tree) (l.names, l.tree))
 
-abbrev pub decreases-loop-mark : goal.decreases-loop-mark
-decreases-loop-mark l = remaining l.tokens l.names
+abbrev pub decreases-loop-start : goal.decreases-loop-start
+decreases-loop-start l = remaining l.tokens l.names

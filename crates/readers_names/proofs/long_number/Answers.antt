@@ -1,5 +1,6 @@
 -- `long_number` reads by its plan: "double" tells the first choice, and else the second is taken.
 -- What the plan comes to is what was called. Assumes nothing.
+use Rattle.std.proofs.Common.{arith}
 use Rattle.readers_core.proofs.Computing.{computing}
 use Rattle.kinds.specs.Lists.{only}
 use Rattle.readers_core.proofs.Choosing.{among, except}
@@ -10,11 +11,11 @@ use mathlib.Core.List.{[], ◌∷◌}
 use mathlib.Core.Path.{refl}
 use Rattle.readers_names.proofs.long_number.Goals as goal
 
-pub returns-in-30 : goal.returns-in-30
+pub returns-in-DOUBLE : goal.returns-in-DOUBLE
 unfolding computing
-returns-in-30 c =
+returns-in-DOUBLE c =
     record {
-      at_any = λ d. chosen (among (only "double")) c.next_kind-next.ensures c.in-30.is
+      at_any = λ d. chosen (among (only "double")) c.next_kind-next.ensures (omega arith)
           (read_word refl tt c.take-word.ensures c.node.ensures);
     }
 
@@ -22,6 +23,6 @@ pub returns-in_default : goal.returns-in_default
 unfolding computing
 returns-in_default c =
     record {
-      at_any = λ d. chosen (except (only "double" ∷ [])) c.next_kind-next.ensures c.in_default.in_default-own.rest
+      at_any = λ d. chosen (except (only "double" ∷ [])) c.next_kind-next.ensures (omega arith)
           ((c.behind_long.ensures.at_any _) ▸ unrecorded tt ▸ unrecorded tt);
     }

@@ -11,7 +11,7 @@ use borrow.Author.Tests.{eq-eqb}
 use Rattle.grammar.specs.Sets.{elem}
 use Rattle.prediction.specs.plans.Plan.{Plan, token, seq, alt}
 use Rattle.readers_core.specs.Course.{Course}
-use Rattle.readers_core.specs.Reading.{State, From, IsKind, ahead}
+use Rattle.readers_core.specs.Reading.{Reading, State, From, IsKind, ahead}
 use Rattle.readers_core.proofs.Computing.{computing}
 use Rattle.readers_core.proofs.Choosing.{among, except, any_elem, elem_any}
 use Rattle.readers_core.proofs.Frames.{chosen, frame_by, taken_of}
@@ -37,7 +37,7 @@ module _ (k l m : ℕ) {x : ℕ} {answer : Bool} (told : answer ≡ elem x (k �
       ⊎_elim (λ e. omega (arith, e, a)) (λ u. ⊎_elim (λ e. omega (arith, e, b)) (λ e. omega (arith, e, c)) u)
       (elem_any (k ∷ l ∷ m ∷ []) x (subst (λ (b : Bool). T b) (sym h ∙ told) tt))
 
-  module _ {R : Course} {ks : List ℕ} {d start : ℕ} {hs : List ℕ} {q : Plan} {s s' : State} (e : x ≡ ahead ks s.0) where
+  module _ {R : Course} {ks : List ℕ} {d : ℕ} {start : Reading} {hs : List ℕ} {q : Plan} {s s' : State} (e : x ≡ ahead ks s.0) where
     taken : answer ≡ true → From R ks d start hs (seq (token x) q) s s' →
         From R ks d start hs (seq (alt (token k) (alt (token l) (token m))) q) s s'
     unfolding computing elem
@@ -55,8 +55,7 @@ module _ (k l m : ℕ) {x : ℕ} {answer : Bool} (told : answer ≡ elem x (k �
 
 pub take-word-requires : goal.take-word-requires
 take-word-requires c =
-    let pre = c.requires in
-    (pre.0, is_kind _ _ _ c.is_one_of.ensures c.if-is_one_of.true pre.1 pre.2 pre.3)
+    let pre = c.requires in is_kind _ _ _ c.is_one_of.ensures c.if-is_one_of.true pre.0 pre.1 pre.2
 
 pub returns-then-is_one_of : goal.returns-then-is_one_of
 unfolding computing

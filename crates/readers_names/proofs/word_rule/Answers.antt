@@ -1,38 +1,39 @@
 -- `word_rule` gives the rule of a type that is one word.
 -- By the kind; of one that is none of theirs no test holds. Assumes nothing.
+use Rattle.std.proofs.Common.{◌≡◌, refl, arith, rules}
 use Rattle.readers_core.proofs.Choosing.{AnyOf, NoneOf}
 use Rattle.readers_names.specs.Plans.{rule_in, words}
 use Rattle.readers_names.proofs.Words.{otherwise}
 use Rattle.readers_names.proofs.word_rule.Goals as goal
 
-pub returns-in-25 : goal.returns-in-25
-unfolding rule_in NoneOf AnyOf
-returns-in-25 c = rw c.in-25.is
+pub returns-in-CHAR : goal.returns-in-CHAR
+unfolding rule_in
+returns-in-CHAR c = let e : c.args.kind ≡ 25 = omega arith in rw e refl
 
-pub returns-in-62 : goal.returns-in-62
-unfolding rule_in NoneOf AnyOf
-returns-in-62 c = rw c.in-62.is
+pub returns-in-WCHAR : goal.returns-in-WCHAR
+unfolding rule_in
+returns-in-WCHAR c = let e : c.args.kind ≡ 62 = omega arith in rw e refl
 
-pub returns-in-23 : goal.returns-in-23
-unfolding rule_in NoneOf AnyOf
-returns-in-23 c = rw c.in-23.is
+pub returns-in-BOOLEAN : goal.returns-in-BOOLEAN
+unfolding rule_in
+returns-in-BOOLEAN c = let e : c.args.kind ≡ 23 = omega arith in rw e refl
 
-pub returns-in-43 : goal.returns-in-43
-unfolding rule_in NoneOf AnyOf
-returns-in-43 c = rw c.in-43.is
+pub returns-in-OCTET : goal.returns-in-OCTET
+unfolding rule_in
+returns-in-OCTET c = let e : c.args.kind ≡ 43 = omega arith in rw e refl
 
-pub returns-in-21 : goal.returns-in-21
-unfolding rule_in NoneOf AnyOf
-returns-in-21 c = rw c.in-21.is
+pub returns-in-ANY : goal.returns-in-ANY
+unfolding rule_in
+returns-in-ANY c = let e : c.args.kind ≡ 21 = omega arith in rw e refl
 
-pub returns-in-17 : goal.returns-in-17
-unfolding rule_in NoneOf AnyOf
-returns-in-17 c = rw c.in-17.is
+pub returns-in-OBJECT : goal.returns-in-OBJECT
+unfolding rule_in
+returns-in-OBJECT c = let e : c.args.kind ≡ 17 = omega arith in rw e refl
 
-pub returns-in-34 : goal.returns-in-34
-unfolding rule_in NoneOf AnyOf
-returns-in-34 c = rw c.in-34.is
+pub returns-in-FIXED : goal.returns-in-FIXED
+unfolding rule_in
+returns-in-FIXED c = let e : c.args.kind ≡ 34 = omega arith in rw e refl
 
 pub returns-in_default : goal.returns-in_default
 unfolding rule_in NoneOf AnyOf
-returns-in_default c = otherwise words _ c.in_default.in_default-own.rest
+returns-in_default c = otherwise words c.args.kind (search rules)

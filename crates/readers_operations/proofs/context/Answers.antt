@@ -1,5 +1,6 @@
 -- `context` reads rule 94 in a frame of its own, or nothing: string literals at one level of depth less.
 -- The kind ahead tells which. Assumes nothing.
+use Rattle.readers_core.proofs.Equality.{differs, same}
 use Rattle.readers_core.proofs.Choosing.{among, except}
 use Rattle.readers_core.proofs.Computing.{computing}
 use Rattle.kinds.specs.Lists.{only}
@@ -13,10 +14,10 @@ use mathlib.Core.Path.{refl}
 use mathlib.Core.List.{[], ◌∷◌}
 use Rattle.readers_operations.proofs.context.Goals as goal
 
-pub returns-then-next-eq-CONTEXT : goal.returns-then-next-eq-CONTEXT
+pub returns-then-eq : goal.returns-then-eq
 unfolding computing append
-returns-then-next-eq-CONTEXT c =
-    picked (among (only "context")) c.next_kind-next.ensures c.if-next-eq-CONTEXT.true
+returns-then-eq c =
+    picked (among (only "context")) c.next_kind-next.ensures (same c.eq.ensures c.if-eq.true)
     (frame (rule "context_expr") ((c.take-word.ensures.reads _ _).in_any _ _ ▸
     (enclosed c.open-inside.ensures (record {
       in_any = λ start hs. (c.string_literal-first.ensures.reads _ _).in_any _ _ ▸▸
@@ -26,4 +27,4 @@ returns-then-next-eq-CONTEXT c =
 
 pub returns : goal.returns
 unfolding computing
-returns c = picked (except (only "context" ∷ [])) c.next_kind-next.ensures (tt, c.if-next-eq-CONTEXT.false) left_out
+returns c = picked (except (only "context" ∷ [])) c.next_kind-next.ensures (tt, (differs c.eq.ensures c.if-eq.false)) left_out

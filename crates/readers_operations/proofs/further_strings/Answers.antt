@@ -1,5 +1,6 @@
 -- `further_strings` reads string literals while a comma stands ahead.
 -- The part read so far as a continuation; what is left to read falls. Assumes nothing.
+use Rattle.readers_core.proofs.Equality.{differs, same}
 use Rattle.readers_core.proofs.Computing.{computing}
 use Rattle.kinds.specs.Lists.{only}
 use Rattle.readers_core.specs.Course.{one}
@@ -13,13 +14,13 @@ pub loop-comma-smaller : goal.loop-comma-smaller
 unfolding computing
 loop-comma-smaller c =
     falls {R = one} {start = c.loop-comma.listed} (among (only ","))
-    c.next_kind.ensures c.loop-comma-test.true tt
+    c.next_kind.ensures (same c.eq.ensures c.loop-comma-test.true) tt
     (λ hs. (c.take-comma.ensures.reads 0 []).in_any _ _ ▸ (c.string_literal-listed.ensures.reads 0 []).in_any _ _)
 
 pub loop-comma-preserved : goal.loop-comma-preserved
 unfolding computing
 loop-comma-preserved c =
-    λ R d w start. far_more (among (only ",")) c.next_kind.ensures c.loop-comma-test.true tt
+    λ R d w start. far_more (among (only ",")) c.next_kind.ensures (same c.eq.ensures c.loop-comma-test.true) tt
     (λ hs. (c.take-comma.ensures.reads _ _).in_any _ _ ▸ (c.string_literal-listed.ensures.reads _ _).in_any _ _)
     (c.loop-comma.invariant R d w start)
 
@@ -27,7 +28,7 @@ pub returns : goal.returns
 unfolding computing
 returns c = record {
   reads = λ {R} d w. record {
-    in_any = λ start hs. far_over (except (only "," ∷ [])) c.next_kind.ensures (tt, c.loop-comma-test.false) tt
+    in_any = λ start hs. far_over (except (only "," ∷ [])) c.next_kind.ensures (tt, (differs c.eq.ensures c.loop-comma-test.false)) tt
         (c.loop-comma.invariant R d w start) hs;
   };
 }

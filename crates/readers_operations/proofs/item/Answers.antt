@@ -1,5 +1,6 @@
 -- `item` reads the rule that it is asked for.
 -- One of four rules, by its number. Assumes nothing.
+use Rattle.std.proofs.Common.{arith}
 use Rattle.readers_core.proofs.Computing.{computing}
 use Rattle.grammar.specs.Names.{rule}
 use Rattle.readers_operations.specs.Plans.{Listed}
@@ -16,22 +17,22 @@ last (inr (inl e)) f g h = absurd (g e)
 last (inr (inr (inl e))) f g h = absurd (h e)
 last (inr (inr (inr e))) f g h = e
 
-pub returns-in-12 : goal.returns-in-12
+pub returns-in-SCOPED_NAME : goal.returns-in-SCOPED_NAME
 unfolding computing
-returns-in-12 c = rw c.in-12.is (c.scoped_name.ensures.at_any _)
+returns-in-SCOPED_NAME c = rw (omega arith) (c.scoped_name.ensures.at_any _)
 
-pub returns-in-51 : goal.returns-in-51
+pub returns-in-SIMPLE_DECLARATOR : goal.returns-in-SIMPLE_DECLARATOR
 unfolding computing
-returns-in-51 c =
-    rw c.in-51.is ((c.one_token.ensures.reads refl refl).at_any _)
+returns-in-SIMPLE_DECLARATOR c =
+    rw (omega arith) ((c.one_token.ensures.reads refl refl).at_any _)
 
-pub returns-in-91 : goal.returns-in-91
+pub returns-in-PARAM_DCL : goal.returns-in-PARAM_DCL
 unfolding computing
-returns-in-91 c = rw c.in-91.is c.param_dcl.ensures
+returns-in-PARAM_DCL c = rw (omega arith) c.param_dcl.ensures
 
 pub returns-in_default : goal.returns-in_default
 unfolding computing
 returns-in_default c =
-    let rest = c.in_default.in_default-own.rest in
+    let rest = (omega arith) in
     rw (last c.requires.1 rest.0.0.1 rest.0.1 rest.1)
     c.init_param_decl.ensures

@@ -1,5 +1,6 @@
 -- `oneway` reads rule 88, or nothing.
 -- The kind ahead tells which. Assumes nothing.
+use Rattle.readers_core.proofs.Equality.{differs, same}
 use Rattle.readers_core.proofs.Choosing.{among, except}
 use Rattle.readers_core.proofs.Computing.{computing}
 use Rattle.kinds.specs.Lists.{only}
@@ -8,11 +9,11 @@ use mathlib.Core.Path.{refl}
 use mathlib.Core.List.{[], ◌∷◌}
 use Rattle.readers_operations.proofs.oneway.Goals as goal
 
-pub returns-then-next-eq-ONEWAY : goal.returns-then-next-eq-ONEWAY
+pub returns-then-eq : goal.returns-then-eq
 unfolding computing
-returns-then-next-eq-ONEWAY c =
+returns-then-eq c =
     record {
-      at_any = λ d. picked (among (only "oneway")) c.next_kind-next.ensures c.if-next-eq-ONEWAY.true
+      at_any = λ d. picked (among (only "oneway")) c.next_kind-next.ensures (same c.eq.ensures c.if-eq.true)
           ((c.one_token.ensures.reads refl refl).at_any d);
     }
 
@@ -20,5 +21,5 @@ pub returns : goal.returns
 unfolding computing
 returns c =
     record {
-      at_any = λ d. picked (except (only "oneway" ∷ [])) c.next_kind-next.ensures (tt, c.if-next-eq-ONEWAY.false) left_out;
+      at_any = λ d. picked (except (only "oneway" ∷ [])) c.next_kind-next.ensures (tt, (differs c.eq.ensures c.if-eq.false)) left_out;
     }

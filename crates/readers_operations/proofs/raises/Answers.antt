@@ -1,5 +1,6 @@
 -- `raises` reads rule 93 in a frame of its own, or nothing: the names of exceptions at one level of depth less.
 -- The kind ahead tells which. Assumes nothing.
+use Rattle.readers_core.proofs.Equality.{differs, same}
 use Rattle.readers_core.proofs.Choosing.{among, except}
 use Rattle.readers_core.proofs.Computing.{computing}
 use Rattle.kinds.specs.Lists.{only}
@@ -17,14 +18,14 @@ use Rattle.readers_operations.proofs.raises.Goals as goal
 pub list-names-requires : goal.list-names-requires
 list-names-requires c = (search rules, inl refl)
 
-pub returns-then-next-eq-RAISES : goal.returns-then-next-eq-RAISES
+pub returns-then-eq : goal.returns-then-eq
 unfolding computing
-returns-then-next-eq-RAISES c =
-    picked (among (only "raises")) c.next_kind-next.ensures c.if-next-eq-RAISES.true
+returns-then-eq c =
+    picked (among (only "raises")) c.next_kind-next.ensures (same c.eq.ensures c.if-eq.true)
     (frame (rule "raises_expr") ((c.take-word.ensures.reads _ _).in_any _ _ ▸
     (between c.open-inside.ensures c.inner.ensures c.list-names.ensures
     c.take-closed.ensures).in_any _ _ ▸ c.node.ensures.wraps refl _ _ _ tt))
 
 pub returns : goal.returns
 unfolding computing
-returns c = picked (except (only "raises" ∷ [])) c.next_kind-next.ensures (tt, c.if-next-eq-RAISES.false) left_out
+returns c = picked (except (only "raises" ∷ [])) c.next_kind-next.ensures (tt, (differs c.eq.ensures c.if-eq.false)) left_out

@@ -18,12 +18,12 @@ use Rattle.readers_specification.proofs.+modules.Goals as goal
 
 pub defined-other_definition-requires : goal.defined-other_definition-requires
 defined-other_definition-requires t c =
-    record { addressable = c.requires; no_module = λ e. c.in_default.in_default-own.rest.1 (c.next_kind-next.ensures ∙ e) }
+    record { addressable = c.requires; no_module = λ e. (omega arith).1 (c.next_kind-next.ensures ∙ e) }
 
-pub defined-returns-in-41 : goal.defined-returns-in-41
+pub defined-returns-in-MODULE : goal.defined-returns-in-MODULE
 unfolding computing
-defined-returns-in-41 t c =
-    picked_here (among (only "module")) c.next_kind-next.ensures c.in-41.is (here c.module_definition.ensures)
+defined-returns-in-MODULE t c =
+    picked_here (among (only "module")) c.next_kind-next.ensures (omega arith) (here c.module_definition.ensures)
 
 pub defined-returns-in_default : goal.defined-returns-in_default
 unfolding computing

@@ -1,7 +1,8 @@
 -- Types hold members that hold types: type, struct, member and union readers call each other, each by its plan.
 -- Remaining depth falls at each opening mark, and else the rank of the reader. Assumes nothing.
+use Rattle.std.proofs.Common.{rules}
 use mathlib.Core.List.{[], ◌∷◌}
-use mathlib.Core.Path.{refl}
+use mathlib.Core.Path.{◌∙◌, refl}
 use native.Mathlib.Omega.{arith}
 use Rattle.kinds.specs.Lists.{kinds_of, only}
 use Rattle.grammar.specs.Names.{rule}
@@ -32,21 +33,21 @@ constr_type_spec-struct_type-requires t c = omega (arith, c.requires)
 pub constr_type_spec-union_type-requires : goal.constr_type_spec-union_type-requires
 constr_type_spec-union_type-requires t c = omega (arith, c.requires)
 
-pub constr_type_spec-returns-in-53 : goal.constr_type_spec-returns-in-53
+pub constr_type_spec-returns-in-STRUCT : goal.constr_type_spec-returns-in-STRUCT
 unfolding computing
-constr_type_spec-returns-in-53 t c =
-    passed_on (rule "constr_type_spec") (among (only "struct")) c.next_kind-next.ensures c.in-53.is refl tt c.struct_type.ensures
+constr_type_spec-returns-in-STRUCT t c =
+    passed_on (rule "constr_type_spec") (among (only "struct")) c.next_kind-next.ensures (omega arith) refl tt c.struct_type.ensures
 
-pub constr_type_spec-returns-in-58 : goal.constr_type_spec-returns-in-58
+pub constr_type_spec-returns-in-UNION : goal.constr_type_spec-returns-in-UNION
 unfolding computing
-constr_type_spec-returns-in-58 t c =
-    passed_on (rule "constr_type_spec") (among (only "union")) c.next_kind-next.ensures c.in-58.is refl tt c.union_type.ensures
+constr_type_spec-returns-in-UNION t c =
+    passed_on (rule "constr_type_spec") (among (only "union")) c.next_kind-next.ensures (omega arith) refl tt c.union_type.ensures
 
 pub constr_type_spec-returns-in_default : goal.constr_type_spec-returns-in_default
 unfolding computing
 constr_type_spec-returns-in_default t c =
     passed_on (rule "constr_type_spec") (except (only "union" ∷ only "struct" ∷ [])) c.next_kind-next.ensures
-    c.in_default.in_default-own.rest refl tt c.enum_type.ensures
+    (omega arith) refl tt c.enum_type.ensures
 
 pub element_spec-type_spec-spec-requires : goal.element_spec-type_spec-spec-requires
 element_spec-type_spec-spec-requires t c = omega (arith, c.requires)
@@ -192,17 +193,17 @@ switch_body-returns t c =
 pub type_spec-constr_type_spec-requires : goal.type_spec-constr_type_spec-requires
 type_spec-constr_type_spec-requires t c = omega (arith, c.requires)
 
-pub type_spec-returns-in-53 : goal.type_spec-returns-in-53
+pub type_spec-returns-in-STRUCT : goal.type_spec-returns-in-STRUCT
 unfolding computing
-type_spec-returns-in-53 t c =
-    passed_on (rule "type_spec") (among (kinds_of ("enum" ∷ "struct" ∷ "union" ∷ []))) c.next_kind-next.ensures c.in-53.is refl tt
+type_spec-returns-in-STRUCT t c =
+    passed_on (rule "type_spec") (among (kinds_of ("enum" ∷ "struct" ∷ "union" ∷ []))) c.next_kind-next.ensures (search rules) refl tt
     c.constr_type_spec.ensures
 
 pub type_spec-returns-in_default : goal.type_spec-returns-in_default
 unfolding computing
 type_spec-returns-in_default t c =
     passed_on (rule "type_spec") (except (kinds_of ("enum" ∷ "struct" ∷ "union" ∷ []) ∷ [])) c.next_kind-next.ensures
-    c.in_default.in_default-own.rest refl tt c.simple_type_spec.ensures
+    (omega arith) refl tt c.simple_type_spec.ensures
 
 pub union_rest-switch_block-block-requires : goal.union_rest-switch_block-block-requires
 union_rest-switch_block-block-requires t c = omega (arith, c.requires)

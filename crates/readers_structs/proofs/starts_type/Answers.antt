@@ -1,5 +1,6 @@
 -- `starts_type` tells the kinds that begin a type.
 -- Above the words by one test, and up to there by the patterns of the match. Assumes nothing.
+use Rattle.std.proofs.Common.{rules}
 use Prim.Native.Nat.{ℕ}
 use Rattle.kinds.specs.Kinds.{identifier, kind_of}
 use Rattle.kinds.specs.Lists.{kinds_of, only}
@@ -27,16 +28,16 @@ unfolding below
 returns-then-kind-gt-LAST_KEYWORD c =
     only_last (kind_of "wstring") low_type_starts (kind_of "::") c.args.kind tt c.if-kind-gt-LAST_KEYWORD.true
 
-pub returns-in-1 : goal.returns-in-1
+pub returns-in-IDENTIFIER : goal.returns-in-IDENTIFIER
 unfolding AnyOf NoneOf flat subset elem
-returns-in-1 c = starts one_arm type_starts _ tt c.in-1.is
+returns-in-IDENTIFIER c = starts one_arm type_starts _ tt (search rules)
 
-pub returns-in-31 : goal.returns-in-31
+pub returns-in-ENUM : goal.returns-in-ENUM
 unfolding AnyOf NoneOf flat subset elem
-returns-in-31 c = starts other_arm type_starts _ tt c.in-31.is
+returns-in-ENUM c = starts other_arm type_starts _ tt (search rules)
 
 pub returns-in_default : goal.returns-in_default
 unfolding AnyOf NoneOf flat subset elem
 returns-in_default c =
     starts_not (only "::" ∷ other_arm ∷ one_arm ∷ []) type_starts _ tt
-    (c.in_default.in_default-own.rest, λ e. omega (arith, c.if-kind-gt-LAST_KEYWORD.false, e))
+    ((omega arith), λ e. omega (arith, c.if-kind-gt-LAST_KEYWORD.false, e))

@@ -1,5 +1,6 @@
 -- `union_dcl` reads by its plan: "switch" tells a declaration.
 -- Its calls are put together as its plan is. Assumes nothing.
+use Rattle.readers_core.proofs.Equality.{differs, same}
 use Rattle.kinds.specs.Lists.{only}
 use Rattle.readers_core.proofs.Choosing.{among, except}
 use Rattle.readers_core.proofs.Computing.{computing}
@@ -9,13 +10,13 @@ use mathlib.Core.List.{[], ◌∷◌}
 use mathlib.Core.Path.{refl}
 use Rattle.readers_structs.proofs.union_dcl.Goals as goal
 
-pub returns-then-next-eq-SWITCH : goal.returns-then-next-eq-SWITCH
+pub returns-then-eq : goal.returns-then-eq
 unfolding computing
-returns-then-next-eq-SWITCH c =
+returns-then-eq c =
     record {
       of_any = λ hs. ((c.take-word.ensures.reads _ _).in_any _ _) ▸
           ((c.take-name.ensures.reads _ _).in_any _ _) ▸
-          chosen (among (only "switch")) c.next_kind-next.ensures c.if-next-eq-SWITCH.true (c.union_rest.ensures.of_any _);
+          chosen (among (only "switch")) c.next_kind-next.ensures (same c.eq.ensures c.if-eq.true) (c.union_rest.ensures.of_any _);
     }
 
 pub returns : goal.returns
@@ -24,6 +25,6 @@ returns c =
     record {
       of_any = λ hs. ((c.take-word.ensures.reads _ _).in_any _ _) ▸
           ((c.take-name.ensures.reads _ _).in_any _ _) ▸
-          chosen (except (only "switch" ∷ [])) c.next_kind-next.ensures (tt, c.if-next-eq-SWITCH.false)
+          chosen (except (only "switch" ∷ [])) c.next_kind-next.ensures (tt, (differs c.eq.ensures c.if-eq.false))
           (c.node.ensures.wraps refl _ _ _ tt);
     }

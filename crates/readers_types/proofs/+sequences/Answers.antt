@@ -11,7 +11,7 @@ use Rattle.readers_types.specs.Plans.{string_rule, strings}
 use Prim.Native.Nat.{ℕ}
 use borrow.Author.Rules.{rules}
 use mathlib.Core.List.{List, [], ◌∷◌}
-use mathlib.Core.Path.{refl}
+use mathlib.Core.Path.{◌∙◌, refl}
 use native.Mathlib.Omega.{arith}
 use Rattle.readers_types.proofs.+sequences.Goals as goal
 
@@ -51,41 +51,41 @@ sequence_type-returns t c =
 pub simple_type_spec-template_type_spec-requires : goal.simple_type_spec-template_type_spec-requires
 simple_type_spec-template_type_spec-requires t c = omega (arith, c.requires)
 
-pub simple_type_spec-returns-in-50 : goal.simple_type_spec-returns-in-50
+pub simple_type_spec-returns-in-SEQUENCE : goal.simple_type_spec-returns-in-SEQUENCE
 unfolding passes_word
-simple_type_spec-returns-in-50 t c =
-    passed_on (rule "simple_type_spec") (among templates) c.next_kind-next.ensures c.in-50.is refl tt c.template_type_spec.ensures
+simple_type_spec-returns-in-SEQUENCE t c =
+    passed_on (rule "simple_type_spec") (among templates) c.next_kind-next.ensures (search rules) refl tt c.template_type_spec.ensures
 
-pub simple_type_spec-returns-in-1 : goal.simple_type_spec-returns-in-1
+pub simple_type_spec-returns-in-IDENTIFIER : goal.simple_type_spec-returns-in-IDENTIFIER
 unfolding passes_word
-simple_type_spec-returns-in-1 t c =
-    passed_on (rule "simple_type_spec") (among names) c.next_kind-next.ensures c.in-1.is refl tt (c.scoped_name.ensures.at_any _)
+simple_type_spec-returns-in-IDENTIFIER t c =
+    passed_on (rule "simple_type_spec") (among names) c.next_kind-next.ensures (search rules) refl tt (c.scoped_name.ensures.at_any _)
 
 pub simple_type_spec-returns-in_default : goal.simple_type_spec-returns-in_default
 unfolding passes_word
 simple_type_spec-returns-in_default t c =
     passed_on (rule "simple_type_spec") (except (names ∷ templates ∷ [])) c.next_kind-next.ensures
-    c.in_default.in_default-own.rest refl tt (c.base_type_spec.ensures.at_any _)
+    (omega arith) refl tt (c.base_type_spec.ensures.at_any _)
 
 pub template_type_spec-sequence_type-requires : goal.template_type_spec-sequence_type-requires
 template_type_spec-sequence_type-requires t c = omega (arith, c.requires)
 
 pub template_type_spec-string_type-requires : goal.template_type_spec-string_type-requires
-template_type_spec-string_type-requires t c = (search rules, c.in-52.is)
+template_type_spec-string_type-requires t c = (search rules, (search rules))
 
-pub template_type_spec-returns-in-50 : goal.template_type_spec-returns-in-50
+pub template_type_spec-returns-in-SEQUENCE : goal.template_type_spec-returns-in-SEQUENCE
 unfolding passes_word
-template_type_spec-returns-in-50 t c =
-    passed_on (rule "template_type_spec") (among (only "sequence")) c.next_kind-next.ensures c.in-50.is refl tt
+template_type_spec-returns-in-SEQUENCE t c =
+    passed_on (rule "template_type_spec") (among (only "sequence")) c.next_kind-next.ensures (omega arith) refl tt
     c.sequence_type.ensures
 
-pub template_type_spec-returns-in-52 : goal.template_type_spec-returns-in-52
+pub template_type_spec-returns-in-STRING : goal.template_type_spec-returns-in-STRING
 unfolding passes_word
-template_type_spec-returns-in-52 t c =
-    passed_by (rule "template_type_spec") string_rule strings c.next_kind-next.ensures c.in-52.is tt c.string_type.ensures
+template_type_spec-returns-in-STRING t c =
+    passed_by (rule "template_type_spec") string_rule strings c.next_kind-next.ensures (search rules) tt c.string_type.ensures
 
 pub template_type_spec-returns-in_default : goal.template_type_spec-returns-in_default
 unfolding passes_word
 template_type_spec-returns-in_default t c =
     passed_on (rule "template_type_spec") (except (strings ∷ only "sequence" ∷ [])) c.next_kind-next.ensures
-    c.in_default.in_default-own.rest refl tt c.fixed_pt_type.ensures
+    (omega arith) refl tt c.fixed_pt_type.ensures

@@ -1,5 +1,6 @@
 -- `const_type` reads rule 28: a number type in a frame of its own, or another rule, whose node is passed on.
 -- The kind ahead tells which. Assumes nothing.
+use Rattle.std.proofs.Common.{arith}
 use Rattle.readers_core.proofs.Computing.{computing}
 use Rattle.kinds.specs.Lists.{kinds_of}
 use Rattle.grammar.specs.Names.{rule}
@@ -11,39 +12,35 @@ use Rattle.readers_types.specs.Plans.{string_rule, strings}
 use Prim.Native.Nat.{ℕ}
 use borrow.Author.Rules.{rules}
 use mathlib.Core.List.{List, [], ◌∷◌}
-use mathlib.Core.Path.{refl}
+use mathlib.Core.Path.{◌∙◌, refl}
 use Rattle.readers_types.proofs.const_type.Goals as goal
 
 abbrev words : List ℕ
 words = kinds_of ("boolean" ∷ "char" ∷ "fixed" ∷ "octet" ∷ "wchar" ∷ [])
 
-pub returns-in-40 : goal.returns-in-40
+pub returns-in-LONG : goal.returns-in-LONG
 unfolding computing
-returns-in-40 c =
-    frame_on (rule "const_type") (among numbers) c.next_kind-next.ensures c.in-40.is
+returns-in-LONG c =
+    frame_on (rule "const_type") (among numbers) c.next_kind-next.ensures (search rules)
     ((c.number_type.ensures.at_any _) ▸ unrecorded tt)
 
-pub one_token-requires : goal.one_token-requires
-unfolding computing
-one_token-requires c = (search rules, is_kind words _ c.in-25.is tt)
-
-pub returns-in-25 : goal.returns-in-25
+pub returns-in-CHAR : goal.returns-in-CHAR
 unfolding passes_word
-returns-in-25 c =
-    by_word (rule "const_type") words c.next_kind-next.ensures c.in-25.is
+returns-in-CHAR c =
+    by_word (rule "const_type") words c.next_kind-next.ensures (search rules)
     c.word_rule.ensures tt c.one_token.ensures
 
-pub returns-in-52 : goal.returns-in-52
+pub returns-in-STRING : goal.returns-in-STRING
 unfolding passes_word
-returns-in-52 c =
-    passed_by (rule "const_type") string_rule strings c.next_kind-next.ensures c.in-52.is tt
+returns-in-STRING c =
+    passed_by (rule "const_type") string_rule strings c.next_kind-next.ensures (search rules) tt
     c.string_type.ensures
 
 pub returns-in_default : goal.returns-in_default
 unfolding computing
 returns-in_default c =
     passed_on (rule "const_type") (except (strings ∷ words ∷ numbers ∷ [])) c.next_kind-next.ensures
-    c.in_default.in_default-own.rest refl tt (c.scoped_name.ensures.at_any _)
+    (omega arith) refl tt (c.scoped_name.ensures.at_any _)
 
 pub string_type-requires : goal.string_type-requires
-string_type-requires c = (search rules, c.in-52.is)
+string_type-requires c = (search rules, (search rules))

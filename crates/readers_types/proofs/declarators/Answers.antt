@@ -1,5 +1,6 @@
 -- `declarators` reads rule 49: a comma tells that there are several, and else it has no record.
 -- By the law of such lists. Assumes nothing.
+use Rattle.readers_core.proofs.Equality.{differs, same}
 use Rattle.kinds.specs.Lists.{only}
 use Rattle.readers_core.proofs.Computing.{computing}
 use Rattle.readers_core.proofs.Choosing.{among, except}
@@ -10,17 +11,17 @@ use mathlib.Core.Logic.{inl}
 use mathlib.Core.Path.{refl}
 use Rattle.readers_types.proofs.declarators.Goals as goal
 
-pub returns-then-next-eq-COMMA : goal.returns-then-next-eq-COMMA
+pub returns-then-eq : goal.returns-then-eq
 unfolding computing
-returns-then-next-eq-COMMA c =
+returns-then-eq c =
     several_parts refl c.declarator-first.ensures (among (only ","))
-    c.next_kind-next.ensures c.if-next-eq-COMMA.true tt c.further-more.ensures refl c.node.ensures tt
+    c.next_kind-next.ensures (same c.eq.ensures c.if-eq.true) tt c.further-more.ensures refl c.node.ensures tt
 
 pub returns : goal.returns
 unfolding computing
 returns c =
     one_part refl c.declarator-first.ensures (except (only "," ∷ []))
-    c.next_kind-next.ensures (tt, c.if-next-eq-COMMA.false) (λ u. u) tt tt
+    c.next_kind-next.ensures (tt, (differs c.eq.ensures c.if-eq.false)) (λ u. u) tt tt
 
 pub further-more-requires : goal.further-more-requires
 further-more-requires c = (search rules, inl refl)

@@ -1,5 +1,6 @@
 -- `further` reads the rest of a list while a comma stands ahead.
 -- By the laws of such loops: each turn reads a comma and an item. Assumes nothing.
+use Rattle.readers_core.proofs.Equality.{differs, same}
 use Rattle.kinds.specs.Lists.{only}
 use Rattle.readers_core.proofs.Computing.{computing}
 use Rattle.readers_core.proofs.Loops.{no_turn, turn_less, turn_again, turned}
@@ -9,19 +10,19 @@ use Rattle.readers_types.proofs.further.Goals as goal
 pub loop-comma-smaller : goal.loop-comma-smaller
 unfolding computing
 loop-comma-smaller c =
-    turn_less (only ",") c.next_kind.ensures c.loop-comma-test.true tt
+    turn_less (only ",") c.next_kind.ensures (same c.eq.ensures c.loop-comma-test.true) tt
     (c.take-comma.ensures.reads _ _ then c.item-items.ensures)
 
 pub loop-comma-preserved : goal.loop-comma-preserved
 unfolding computing
 loop-comma-preserved c =
-    turn_again (only ",") c.next_kind.ensures c.loop-comma-test.true tt
+    turn_again (only ",") c.next_kind.ensures (same c.eq.ensures c.loop-comma-test.true) tt
     (c.take-comma.ensures.reads _ _ then c.item-items.ensures) c.item-items.auto.tree
     c.loop-comma.invariant
 
 pub returns : goal.returns
 unfolding computing
-returns c = turned (only ",") c.next_kind.ensures (tt, c.loop-comma-test.false) tt c.loop-comma.invariant
+returns c = turned (only ",") c.next_kind.ensures (tt, (differs c.eq.ensures c.loop-comma-test.false)) tt c.loop-comma.invariant
 
 pub loop-comma-init : goal.loop-comma-init
 loop-comma-init c = no_turn

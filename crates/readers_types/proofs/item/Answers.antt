@@ -1,17 +1,18 @@
 -- `item` reads the rule that it is asked for.
 -- One of two rules, by its number. Assumes nothing.
+use Rattle.std.proofs.Common.{arith}
 use Rattle.readers_core.proofs.Computing.{computing}
 use mathlib.Core.Logic.{⊎_elim}
 use mathlib.Core.Path.{◌≡◌, refl}
 use Rattle.grammar.specs.Names.{rule}
 use Rattle.readers_types.proofs.item.Goals as goal
 
-pub returns-in-50 : goal.returns-in-50
-returns-in-50 c = rw c.in-50.is c.declarator.ensures
+pub returns-in-DECLARATOR : goal.returns-in-DECLARATOR
+returns-in-DECLARATOR c = rw (omega arith) c.declarator.ensures
 
 pub returns-in_default : goal.returns-in_default
 unfolding computing
 returns-in_default c =
     let other : c.args.rule ≡ rule "enumerator" =
-    ⊎_elim (λ same. absurd (c.in_default.in_default-own.rest.1 same)) (λ same. same) c.requires.1 in
+    ⊎_elim (λ same. absurd ((omega arith).1 same)) (λ same. same) c.requires.1 in
     rw other ((c.one_token.ensures.reads refl refl).at_any _)

@@ -1,5 +1,6 @@
 -- `string_type` reads rules 81 and 82, whichever begins with the word, in a frame of their own.
 -- Its calls are put together as its plan is; a mark tells the bound. Assumes nothing.
+use Rattle.readers_core.proofs.Equality.{differs, same}
 use Rattle.readers_core.proofs.Computing.{computing}
 use Rattle.kinds.specs.Lists.{only}
 use Rattle.readers_core.proofs.Choosing.{among, except}
@@ -12,16 +13,12 @@ use mathlib.Core.List.{[], ◌∷◌}
 use mathlib.Core.Path.{sym}
 use Rattle.readers_types.proofs.string_type.Goals as goal
 
-pub take-word-requires : goal.take-word-requires
-unfolding computing
-take-word-requires c = (search rules, is_kind strings _ c.requires.1 tt)
-
-pub returns-then-next-eq-OPEN_ANGLE : goal.returns-then-next-eq-OPEN_ANGLE
+pub returns-then-eq : goal.returns-then-eq
 unfolding plans_of
-returns-then-next-eq-OPEN_ANGLE c =
+returns-then-eq c =
     frame_by _ (plan_of string_rule string_plan strings _ c.requires.1 tt)
     (((c.take-word.ensures.reads _ _).in_any _ _)
-    ▸ chosen (among (only "<")) c.next_kind-next.ensures c.if-next-eq-OPEN_ANGLE.true
+    ▸ chosen (among (only "<")) c.next_kind-next.ensures (same c.eq.ensures c.if-eq.true)
     (c.enclosed-bound.ensures.in_any _ _)
     ▸ (c.node.ensures.wraps (sym c.string_rule-rule.ensures) _ _ _ tt))
 
@@ -30,5 +27,5 @@ unfolding plans_of
 returns c =
     frame_by _ (plan_of string_rule string_plan strings _ c.requires.1 tt)
     (((c.take-word.ensures.reads _ _).in_any _ _)
-    ▸ chosen (except (only "<" ∷ [])) c.next_kind-next.ensures (tt, c.if-next-eq-OPEN_ANGLE.false) skipped
+    ▸ chosen (except (only "<" ∷ [])) c.next_kind-next.ensures (tt, (differs c.eq.ensures c.if-eq.false)) skipped
     ▸ (c.node-2.ensures.wraps (sym c.string_rule-rule.ensures) _ _ _ tt))

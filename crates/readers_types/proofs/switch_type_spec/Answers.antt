@@ -1,5 +1,6 @@
 -- `switch_type_spec` reads rule 73, which passes another rule's node on.
 -- The kind ahead tells which. Assumes nothing.
+use Rattle.std.proofs.Common.{arith}
 use Rattle.readers_core.proofs.Computing.{computing}
 use Rattle.kinds.specs.Lists.{kinds_of, only}
 use Rattle.grammar.specs.Names.{rule}
@@ -9,7 +10,7 @@ use Rattle.readers_names.proofs.Words.{by_word, is_kind, passes_word}
 use Prim.Native.Nat.{ℕ}
 use borrow.Author.Rules.{rules}
 use mathlib.Core.List.{List, [], ◌∷◌}
-use mathlib.Core.Path.{refl}
+use mathlib.Core.Path.{◌∙◌, refl}
 use Rattle.readers_types.proofs.switch_type_spec.Goals as goal
 
 abbrev integers : List ℕ
@@ -18,30 +19,26 @@ integers = kinds_of ("long" ∷ "short" ∷ "unsigned" ∷ [])
 abbrev words : List ℕ
 words = kinds_of ("boolean" ∷ "char" ∷ [])
 
-pub returns-in-40 : goal.returns-in-40
+pub returns-in-LONG : goal.returns-in-LONG
 unfolding computing
-returns-in-40 c =
-    passed_on (rule "switch_type_spec") (among integers) c.next_kind-next.ensures c.in-40.is refl tt
+returns-in-LONG c =
+    passed_on (rule "switch_type_spec") (among integers) c.next_kind-next.ensures (search rules) refl tt
     (c.integer_type.ensures.at_any _)
 
-pub one_token-requires : goal.one_token-requires
-unfolding computing
-one_token-requires c = (search rules, is_kind words _ c.in-25.is tt)
-
-pub returns-in-25 : goal.returns-in-25
+pub returns-in-CHAR : goal.returns-in-CHAR
 unfolding passes_word
-returns-in-25 c =
-    by_word (rule "switch_type_spec") words c.next_kind-next.ensures c.in-25.is
+returns-in-CHAR c =
+    by_word (rule "switch_type_spec") words c.next_kind-next.ensures (search rules)
     c.word_rule.ensures tt c.one_token.ensures
 
-pub returns-in-31 : goal.returns-in-31
+pub returns-in-ENUM : goal.returns-in-ENUM
 unfolding computing
-returns-in-31 c =
-    passed_on (rule "switch_type_spec") (among (only "enum")) c.next_kind-next.ensures c.in-31.is refl tt
+returns-in-ENUM c =
+    passed_on (rule "switch_type_spec") (among (only "enum")) c.next_kind-next.ensures (omega arith) refl tt
     c.enum_type.ensures
 
 pub returns-in_default : goal.returns-in_default
 unfolding computing
 returns-in_default c =
     passed_on (rule "switch_type_spec") (except (only "enum" ∷ words ∷ integers ∷ [])) c.next_kind-next.ensures
-    c.in_default.in_default-own.rest refl tt (c.scoped_name.ensures.at_any _)
+    (omega arith) refl tt (c.scoped_name.ensures.at_any _)

@@ -1,5 +1,6 @@
 -- `starts_element` tells whether a kind is among those that rule 21 may start with.
 -- Three words, and the kinds that rule 9 may start with. Assumes nothing.
+use Rattle.std.proofs.Common.{rules}
 use Rattle.kinds.specs.Lists.{kinds_of, only}
 use Rattle.grammar.specs.Sets.{elem}
 use Rattle.prediction.specs.Sets.{subset}
@@ -8,22 +9,22 @@ use Rattle.readers_core.proofs.Starts.{passes, starts}
 use Rattle.readers_interfaces.specs.Plans.{export_starts}
 use Rattle.readers_values.specs.Plans.{element_starts}
 use mathlib.Core.List.{[], ◌∷◌}
-use Rattle.std.proofs.Common.{List, ℕ}
+use Rattle.std.proofs.Common.{List, ℕ, arith}
 use Rattle.readers_values.proofs.starts_element.Goals as goal
 
 abbrev words : List ℕ
 words = kinds_of ("factory" ∷ "public" ∷ [])
 
-pub returns-in-47 : goal.returns-in-47
+pub returns-in-PUBLIC : goal.returns-in-PUBLIC
 unfolding AnyOf NoneOf flat subset elem
-returns-in-47 c = starts words element_starts _ tt c.in-47.is
+returns-in-PUBLIC c = starts words element_starts _ tt (search rules)
 
-pub returns-in-46 : goal.returns-in-46
+pub returns-in-PRIVATE : goal.returns-in-PRIVATE
 unfolding AnyOf NoneOf flat subset elem
-returns-in-46 c = starts (only "private") element_starts _ tt c.in-46.is
+returns-in-PRIVATE c = starts (only "private") element_starts _ tt (omega arith)
 
 pub returns-in_default : goal.returns-in_default
 unfolding AnyOf NoneOf flat subset elem
 returns-in_default c =
-    passes (only "private" ∷ words ∷ []) export_starts element_starts _ c.in_default.in_default-own.rest tt tt
+    passes (only "private" ∷ words ∷ []) export_starts element_starts _ (omega arith) tt tt
     c.starts_export.ensures

@@ -1,5 +1,6 @@
 -- `visibility` reads by its plan: one of two words.
 -- What the plan comes to is what was called. Assumes nothing.
+use Rattle.std.proofs.Common.{◌∙◌, arith}
 use Rattle.readers_core.proofs.Computing.{computing}
 use Rattle.kinds.specs.Lists.{only}
 use Rattle.readers_core.proofs.Choosing.{among, except}
@@ -7,15 +8,15 @@ use Rattle.readers_core.proofs.Parts.{picked}
 use mathlib.Core.List.{[], ◌∷◌}
 use Rattle.readers_values.proofs.visibility.Goals as goal
 
-pub returns-in-47 : goal.returns-in-47
+pub returns-in-PUBLIC : goal.returns-in-PUBLIC
 unfolding computing
-returns-in-47 c =
-    record { reads = λ d w. picked (among (only "public")) c.next_kind-next.ensures c.in-47.is (c.take.ensures.reads d w) }
+returns-in-PUBLIC c =
+    record { reads = λ d w. picked (among (only "public")) c.next_kind-next.ensures (omega arith) (c.take.ensures.reads d w) }
 
 pub returns-in_default : goal.returns-in_default
 unfolding computing
 returns-in_default c =
     record {
-      reads = λ d w. picked (except (only "public" ∷ [])) c.next_kind-next.ensures c.in_default.in_default-own.rest
+      reads = λ d w. picked (except (only "public" ∷ [])) c.next_kind-next.ensures (omega arith)
           (c.take-in_default.ensures.reads d w);
     }
