@@ -12,7 +12,7 @@ use Rattle.grammar.specs.Sets.{elem}
 use Rattle.prediction.specs.plans.Plan.{token, call, wrap}
 use Rattle.prediction.specs.Interpreter.{Outcome, Runs, run_wrap}
 use Rattle.readers_core.specs.Course.{one, table_in}
-use Rattle.readers_core.specs.Reading.{kind_at, ahead, view, State, seen, Ends, ends_done, From, nothing, several, Reads}
+use Rattle.readers_core.specs.Reading.{kind_at, Reading, ahead, State, Ends, ends_done, From, nothing, several, Reads}
 use Rattle.readers_core.specs.Reading.{Within, Takes, Closes}
 use Rattle.readers_core.proofs.Choosing.{among, except, any_elem, elem_any}
 use Rattle.readers_core.proofs.Frames.{ahead_kind, ahead_none, frame_by, going}
@@ -80,26 +80,26 @@ module _ {ks : List ℕ} {d : ℕ} {s t : State} where
       go (inr other) = settled level k low le (omega arith) (omega (arith, h, other)) (shut k (omega arith) high other o)
 
 -- a node does not move on
-same_ahead : (ks : List ℕ) {r start : ℕ} {s s' : State} → From one ks 0 start several (wrap r) s s' →
+same_ahead : (ks : List ℕ) {r : ℕ} {start : Reading} {s s' : State} → From one ks 0 start several (wrap r) s s' →
     ahead ks s'.0 ≡ ahead ks s.0
 unfolding shape elem
-same_ahead ks {r} {start} {s} {s'} x = go (going (view s.0).answer)
+same_ahead ks {r} {start} {s} {s'} x = go (going s.0.answer)
   where
-    stands : {o : Outcome} → (view s.0).answer ≡ 0 → Runs (table_in one) (kind_at ks) 0 (wrap r) (view s.0).at (leaf end 0) o →
-        Ends one (view start, []) (leaf end 0) (seen s) (seen s') o → ahead ks s'.0 ≡ ahead ks s.0
+    stands : {o : Outcome} → s.0.answer ≡ 0 → Runs (table_in one) (kind_at ks) 0 (wrap r) s.0.at (leaf end 0) o →
+        Ends one (start, []) (leaf end 0) s s' o → ahead ks s'.0 ≡ ahead ks s.0
     stands z run_wrap (ends_done e e' k) =
         ahead_kind ks s'.0 e ∙ ap (kind_at ks) e' ∙ sym (ahead_kind ks s.0 z)
 
-    go : ((view s.0).answer ≡ 0) ⊎ ((view s.0).answer ≡ 0 → ⊥) → ahead ks s'.0 ≡ ahead ks s.0
-    go (inl z) = let y = (at_home x (view start, []) refl refl).runs z (leaf end 0) tt in stands z y.run y.ends
+    go : (s.0.answer ≡ 0) ⊎ (s.0.answer ≡ 0 → ⊥) → ahead ks s'.0 ≡ ahead ks s.0
+    go (inl z) = let y = (at_home x (start, []) refl refl).runs z (leaf end 0) tt in stands z y.run y.ends
     go (inr n) =
-        let y = (at_home x (view start, []) refl refl).stays n in
+        let y = (at_home x (start, []) refl refl).stays n in
         sym (ahead_none ks s'.0 (λ e. n (sym y.answers ∙ e))) ∙ ahead_none ks s.0 n
 
 -- where an operator x of level k is next
-module _ {ks : List ℕ} {k x t : ℕ} (found : Found k x) (e : x ≡ ahead ks t) where
+module _ {ks : List ℕ} {k x : ℕ} {t : Reading} (found : Found k x) (e : x ≡ ahead ks t) where
   -- one turn: the operator, its right operand, and the node of all since `start`, behind which no tighter operator is next
-  pub operated : {d start m o u : ℕ} {w w' w'' : List ℕ} → Takes ks (token x) t m →
+  pub operated : {d : ℕ} {start m o u : Reading} {w w' w'' : List ℕ} → Takes ks (token x) t m →
       Reads one ks d (call (k + 1)) (m, w) (o, w') → Closes k start (o, w') (u, w'') → level_of (ahead ks o) < k + 1 →
       Within one ks d start (further_operand k) (t, w) (u, w'') × (level_of (ahead ks u) ≤ k)
   unfolding computing
@@ -113,7 +113,7 @@ module _ {ks : List ℕ} {k x t : ℕ} (found : Found k x) (e : x ≡ ahead ks t
       )
 
   -- what it does: less is left to read, and all is ready for what is next then
-  module _ {d start u : ℕ} {w w' : List ℕ} (turn : Within one ks d start (further_operand k) (t, w) (u, w')) where
+  module _ {d : ℕ} {start u : Reading} {w w' : List ℕ} (turn : Within one ks d start (further_operand k) (t, w) (u, w')) where
     pub less : remaining ks u < remaining ks t
     unfolding computing
     less =

@@ -4,11 +4,13 @@ use Rattle.readers_core.proofs.Computing.{computing}
 use Prim.Native.String.{String}
 use Prim.Native.Nat.{ℕ, zero, suc, ◌+◌, ◌-◌, ◌≤◌, ◌<◌}
 use native.Mathlib.Omega.{arith}
-use mathlib.Core.Path.{◌≡◌, refl, sym, subst}
-use mathlib.Core.Bool.{Bool, true, false, ◌&&◌, cond}
+use mathlib.Core.Path.{◌≡◌, refl, sym, ap, subst, ◌∙◌}
+use Rattle.std.proofs.Common.{le-ltb, lt-ltb}
+use Rattle.std.specs.Prelude.{Option, Some, None}
+use mathlib.Core.Bool.{Bool, true, false, ◌&&◌, cond, not}
 use mathlib.Core.List.{[], ◌∷◌}
 use mathlib.Core.Logic.{◌⊎◌, inl, inr, ⊎_elim}
-use lib.Dec.{T, T_not, eqb, eqb→eq, leb, leb→le}
+use lib.Dec.{T, T_not, eqb, eqb→eq, leb, leb→le, ltb, ltb→lt, nltb→le}
 use Rattle.kinds.specs.Kinds.{kind_of}
 use Rattle.grammar.specs.Names.{rule}
 use Rattle.grammar.specs.Sets.{elem}
@@ -21,7 +23,7 @@ use Rattle.readers_core.proofs.Choosing.{among, any_elem, any_row, except, is_ov
 use Rattle.readers_core.proofs.Repetition.{repeats}
 use Rattle.readers_core.proofs.Frames.{comes_to}
 use Rattle.readers_expressions.specs.Levels.{loosest, tightest, operand, operators, one_before, further_operand}
-use Rattle.readers_expressions.specs.Levels.{first_with, level_of}
+use Rattle.readers_expressions.specs.Levels.{first_with, level_of, some_level}
 
 -- an operator of level n with its right operand
 abbrev pub operation : (n k : ℕ) → Plan
@@ -142,3 +144,24 @@ outside x h = ⊎_elim sym (λ f. absurd (far (between x (level f) f.has))) (lev
   where
     far : (first_operator ≤ x) × (x ≤ last_operator) → ⊥
     far b = ⊎_elim (λ u. omega (arith, u, b.0)) (λ u. omega (arith, u, b.1)) h
+
+-- the number of a level, 0 for none; it is that of which the level was made
+value : Option ℕ → ℕ
+value None = 0
+value (Some n) = n
+
+value_is : (n : ℕ) → value (some_level n) ≡ n
+unfolding value
+value_is n = go (decide (ltb 0 n))
+  where
+    go : T (ltb 0 n) ⊎ T (not (ltb 0 n)) → value (some_level n) ≡ n
+    go (inl u) = rw (lt-ltb 0 n (ltb→lt 0 n u)) refl
+    go (inr u) = let l = nltb→le 0 n u in rw (le-ltb 0 n l) (omega arith)
+
+pub no_level : (n : ℕ) {o : Option ℕ} → o ≡ None → o ≡ some_level n → n ≡ 0
+unfolding value
+no_level n i e = sym (ap value (sym i ∙ e) ∙ value_is n)
+
+pub the_level : (n : ℕ) {k : ℕ} {o : Option ℕ} → o ≡ Some k → o ≡ some_level n → k ≡ n
+unfolding value
+the_level n i e = ap value (sym i ∙ e) ∙ value_is n

@@ -1,6 +1,6 @@
 -- The unary operators, and the binary ones by their level: the rules from or_expr to mult_expr, the loosest first.
 -- Assumes nothing: these are definitions.
-use Rattle.std.specs.Prelude.{ℕ, ◌+◌, ◌-◌, List, [], ◌∷◌, Bool, true, false, cond, ◌≡◌, get_or}
+use Rattle.std.specs.Prelude.{Option, Some, None, ltb, ℕ, ◌+◌, ◌-◌, List, [], ◌∷◌, Bool, true, false, cond, ◌≡◌, get_or}
 use Rattle.kinds.specs.Lists.{kinds_of, only}
 use Rattle.grammar.specs.Names.{rule}
 use Rattle.grammar.specs.Sets.{elem}
@@ -56,3 +56,7 @@ first_with k (n ∷ ns) = cond (elem k (operators n)) n (first_with k ns)
 unfoldable pub level_of : ℕ → ℕ
 unfolding first_with row
 level_of k = first_with k (row loosest (operand - loosest))
+
+-- the level, where it is of one
+abbrev pub some_level : ℕ → Option ℕ
+some_level n = cond (ltb 0 n) (Some n) None

@@ -3,32 +3,40 @@
 // they share their room on the stack.
 #![tactic(auto)]
 
-ghost use Rattle.std.specs.Prelude.{◌≡◌, ◌≤◌, ◌<◌};
+ghost use Rattle.std.specs.Prelude.{◌≡◌, ◌+◌, ◌≤◌, ◌<◌};
 ghost use Rattle.prediction.specs.plans.Plan.{call};
 ghost use Rattle.grammar.specs.Names.{rule};
 ghost use Rattle.readers_core.specs.Notation.{<◌>, ◌⟨◌⟩◌};
 ghost use Rattle.readers_core.specs.Course.{one};
 ghost use Rattle.readers_core.specs.Reading.{ahead, Within, Reads};
-ghost use Rattle.readers_expressions.specs.Levels.{Signs, further_operand, level_of};
+ghost use Rattle.readers_expressions.specs.Levels.{Signs, further_operand, level_of, some_level, tightest};
 
 use grammar::Rule;
 use kinds::Kind;
 use readers_core::{Reading, Tokens, node};
 use readers_names::{is_one_of, literal, one_of_three, scoped_name};
 
-// The rule that a binary operator belongs to, 0 for any other kind.
-fn level_of(kind: Kind) -> Rule
-    ensures { result ≡ level_of kind }
+// The rule that a binary operator belongs to.
+fn level_of(kind: Kind) -> Option<Rule>
+    ensures { result ≡ some_level (level_of kind) }
 {
     match kind {
-        Kind::BAR => Rule::OR_EXPR,
-        Kind::CARET => Rule::XOR_EXPR,
-        Kind::AMPERSAND => Rule::AND_EXPR,
-        Kind::SHIFT_RIGHT | Kind::SHIFT_LEFT => Rule::SHIFT_EXPR,
-        Kind::PLUS | Kind::MINUS => Rule::ADD_EXPR,
-        Kind::STAR | Kind::SLASH | Kind::PERCENT => Rule::MULT_EXPR,
-        _ => 0,
+        Kind::BAR => Some(Rule::OR_EXPR),
+        Kind::CARET => Some(Rule::XOR_EXPR),
+        Kind::AMPERSAND => Some(Rule::AND_EXPR),
+        Kind::SHIFT_RIGHT | Kind::SHIFT_LEFT => Some(Rule::SHIFT_EXPR),
+        Kind::PLUS | Kind::MINUS => Some(Rule::ADD_EXPR),
+        Kind::STAR | Kind::SLASH | Kind::PERCENT => Some(Rule::MULT_EXPR),
+        _ => None,
     }
+}
+
+// The rule of the right operand of a binary operator, which holds only tighter ones.
+fn tighter(level: Rule) -> Rule
+    requires { level ≤ tightest }
+    ensures { result ≡ level + 1 }
+{
+    Rule::from(u32::from(level) + 1)
 }
 
 // An expression in parentheses, as (38) primary_expr.
@@ -109,7 +117,7 @@ fn operation(
 {
     let next = tokens.next_kind(at);
     let operator = tokens.take(at, next);
-    let operand = binary(tokens, tree, operator, depth, level + 1);
+    let operand = binary(tokens, tree, operator, depth, tighter(level));
     node(tree, start, operand, level)
 }
 
@@ -122,7 +130,9 @@ fn binary(tokens: &Tokens, tree: &mut [u32], at: Reading, depth: u32, level: Rul
 {
     let mut value = unary(tokens, tree, at, depth);
     loop {
-        let found = level_of(tokens.next_kind(value));
+        let Some(found) = level_of(tokens.next_kind(value)) else {
+            return value;
+        };
         if found < level {
             return value;
         }

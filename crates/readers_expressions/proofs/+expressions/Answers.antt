@@ -5,7 +5,7 @@ use Rattle.readers_core.proofs.Computing.{computing}
 use Rattle.kinds.specs.Kinds.{identifier}
 use Rattle.kinds.specs.Lists.{only}
 use Rattle.grammar.specs.Names.{rule}
-use Rattle.prediction.specs.plans.Plan.{Plan}
+use Rattle.prediction.specs.plans.Plan.{Plan, call}
 use Rattle.readers_core.proofs.Choosing.{among, except}
 use Rattle.readers_core.proofs.Frames.{frame_on, passed_on}
 use Rattle.readers_core.proofs.Groups.{enclosed, room, shut}
@@ -13,13 +13,13 @@ use Rattle.readers_core.proofs.Sequence.{◌▸◌}
 use Rattle.readers_core.specs.Course.{one}
 use Rattle.readers_core.specs.Reading.{Reads, State}
 use Rattle.readers_expressions.proofs.Climbing.{climbed, less, operated, settled}
-use Rattle.readers_expressions.proofs.Operations.{below_operand, bounded, leveled, operator_kind}
+use Rattle.readers_expressions.proofs.Operations.{below_operand, bounded, leveled, no_level, operator_kind, the_level}
 use Rattle.readers_core.proofs.Starts.{is_in, is_out}
 use Rattle.readers_expressions.specs.Levels.{level_of as level_of', operand, signs}
 use mathlib.Core.List.{List, [], ◌∷◌}
 use mathlib.Core.Path.{◌∙◌, ◌≡◌, ap, refl, subst, sym}
 use native.Mathlib.Omega.{arith}
-use Prim.Native.Nat.{ℕ}
+use Prim.Native.Nat.{ℕ, ◌<◌, ◌≤◌}
 use Rattle.readers_expressions.proofs.+expressions.Goals as goal
 
 -- an operand that has no sign is read from where the sign would stand
@@ -27,63 +27,74 @@ unmoved : {ks : List ℕ} {d : ℕ} {p : Plan} {s s' t : State} → s' ≡ s →
 unmoved {ks} {d} {p} {t = t} e = subst (λ (s : State). Reads one ks d p s t) e
 
 -- an operand, and operations as long as an operator of the level or above is next
-pub binary-loop-at-init : goal.binary-loop-at-init
-binary-loop-at-init t c =
-    (refl, λ w r. settled c.args.level operand c.requires.1 c.requires.2 (omega arith) (bounded _) r)
+pub binary-loop-found-init : goal.binary-loop-found-init
+binary-loop-found-init t c =
+    (refl, λ w r. settled c.args.level operand c.requires.0 c.requires.1 (omega arith) (bounded _) r)
 
-pub binary-returns-then-found-level : goal.binary-returns-then-found-level
-binary-returns-then-found-level t c =
-    let found = c.level_of-found.ensures in
+pub binary-returns-in_default : goal.binary-returns-in_default
+binary-returns-in_default t c =
     let next = c.next_kind.ensures in
+    let none = no_level (level_of' c.next_kind.result) c.in_default.is c.level_of.ensures in
     record {
-      reads = (c.loop-at.invariant.1 _ c.unary-value.ensures).over next found c.if-found-level.true;
-      looser = rw (sym next) (omega (arith, found, c.if-found-level.true));
+      reads = (c.loop-found.invariant.1 _ c.unary-value.ensures).over next refl (omega (arith, none, c.requires));
+      looser = rw (sym next) (omega (arith, none, c.requires));
+    }
+
+pub binary-returns-then-lt : goal.binary-returns-then-lt
+binary-returns-then-lt t c =
+    let next = c.next_kind.ensures in
+    let found = the_level (level_of' c.next_kind.result) c.in-Some.is c.level_of.ensures in
+    let looser : c.in-Some.found < c.args.level = search rules in
+    record {
+      reads = (c.loop-found.invariant.1 _ c.unary-value.ensures).over next found looser;
+      looser = rw (sym next) (omega (arith, found, looser));
     }
 
 pub binary-operation-value-requires : goal.binary-operation-value-requires
-binary-operation-value-requires t c = (
-  omega (arith, c.requires, c.if-found-level.false),
-  (
-    c.requires.0,
-    c.level_of-found.ensures ∙ ap level_of' c.next_kind.ensures,
-    omega (arith, c.requires, c.if-found-level.false),
-  ),
-)
+binary-operation-value-requires t c =
+    let found = the_level (level_of' c.next_kind.result) c.in-Some.is c.level_of.ensures in
+    let tighter : c.args.level ≤ c.in-Some.found = search rules in
+    (omega (arith, c.requires, tighter), (found ∙ ap level_of' c.next_kind.ensures, omega (arith, c.requires, tighter)))
 
-pub binary-loop-at-smaller : goal.binary-loop-at-smaller
-binary-loop-at-smaller t c =
-    less (leveled _ _ c.level_of-found.ensures (omega (arith, c.requires, c.if-found-level.false)))
-    c.next_kind.ensures c.operation-value.ensures.within
+pub binary-loop-found-smaller : goal.binary-loop-found-smaller
+binary-loop-found-smaller t c =
+    let found = the_level (level_of' c.next_kind.result) c.in-Some.is c.level_of.ensures in
+    let tighter : c.args.level ≤ c.in-Some.found = search rules in
+    less (leveled _ _ found (omega (arith, c.requires, tighter))) c.next_kind.ensures c.operation-value.ensures.within
 
-pub binary-loop-at-preserved : goal.binary-loop-at-preserved
-binary-loop-at-preserved t c =
+pub binary-loop-found-preserved : goal.binary-loop-found-preserved
+binary-loop-found-preserved t c =
     let operation = c.operation-value in
-    let loop = c.loop-at in (
+    let loop = c.loop-found in
+    let found = the_level (level_of' c.next_kind.result) c.in-Some.is c.level_of.ensures in
+    let tighter : c.args.level ≤ c.in-Some.found = search rules in (
       operation.auto.tree ∙ loop.invariant.0,
-      λ w r. climbed (leveled _ _ c.level_of-found.ensures (omega (arith, c.requires, c.if-found-level.false)))
-          c.next_kind.ensures operation.ensures.within c.args.level c.requires.1
-          c.if-found-level.false operation.ensures.looser (loop.invariant.1 w r),
+      λ w r. climbed (leveled _ _ found (omega (arith, c.requires, tighter))) c.next_kind.ensures operation.ensures.within
+          c.args.level c.requires.0 tighter operation.ensures.looser (loop.invariant.1 w r),
     )
 
 -- the operator that is next, its right operand one level tighter, and the node
 pub operation-take-operator-requires : goal.operation-take-operator-requires
 operation-take-operator-requires t c =
-    (c.requires.0, operator_kind _ _ (c.requires.1 ∙ ap level_of' (sym c.next_kind-next.ensures)) c.requires.2)
+    operator_kind _ _ (c.requires.0 ∙ ap level_of' (sym c.next_kind-next.ensures)) c.requires.1
 
-pub operation-overflow_add-level : goal.operation-overflow_add-level
-operation-overflow_add-level t c = omega (arith, below_operand _ _ c.requires.1)
+pub operation-tighter-requires : goal.operation-tighter-requires
+operation-tighter-requires t c = omega (arith, below_operand _ _ c.requires.0)
 
 pub operation-binary-operand-requires : goal.operation-binary-operand-requires
 operation-binary-operand-requires t c =
-    let h = below_operand _ _ c.requires.1 in omega (arith, h, c.requires.2)
+    let h = below_operand _ _ c.requires.0 in omega (arith, h, c.requires.1, c.tighter.ensures)
 
 pub operation-returns : goal.operation-returns
 operation-returns t c =
     let right = c.binary-operand in
     let next = c.next_kind-next.ensures in
-    let read =
-    operated (leveled _ _ (c.requires.1 ∙ ap level_of' (sym next)) c.requires.2) next c.take-operator.ensures
-    right.ensures.reads c.node.ensures right.ensures.looser in record { within = read.0; looser = read.1 }
+    let reads = subst
+    (λ (n : ℕ). Reads one c.args.tokens.now c.args.depth (call n) (c.take-operator.result, c.args.tree.now)
+    (right.result, right.new.tree)) c.tighter.ensures right.ensures.reads in
+    let read = operated (leveled _ _ (c.requires.0 ∙ ap level_of' (sym next)) c.requires.1) next c.take-operator.ensures
+    reads c.node.ensures (omega (arith, right.ensures.looser, c.tighter.ensures)) in
+    record { within = read.0; looser = read.1 }
 
 -- between the marks, an expression at one level of depth less
 pub parenthesized-returns-then-has_stopped : goal.parenthesized-returns-then-has_stopped

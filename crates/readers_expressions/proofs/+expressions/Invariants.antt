@@ -36,10 +36,10 @@ abbrev pub decreases-unary : goal.decreases-unary
 decreases-unary l = ranks * l.depth + rank "unary"
 
 -- all before the value is ready for what is next, once the first operand was read
-abbrev pub invariant-binary-loop-at : goal.invariant-binary-loop-at
-invariant-binary-loop-at l =
-    (length l.tree ≡ length l.initial.tree) × ((w : List ℕ) → Reads one l.tokens l.depth (call operand) (l.at, w) (l.initial.value, l.initial.tree) →
-    Ready l.tokens l.depth l.level (l.at, w) (l.value, l.tree))
+abbrev pub invariant-binary-loop-found : goal.invariant-binary-loop-found
+invariant-binary-loop-found l =
+    (length l.tree ≡ length l.initial.tree) × ((w : List ℕ) → Reads one l.tokens l.fn.depth (call operand) (l.fn.at, w) (l.initial.value, l.initial.tree) →
+    Ready l.tokens l.fn.depth l.fn.level (l.fn.at, w) (l.value, l.tree))
 
-abbrev pub decreases-binary-loop-at : goal.decreases-binary-loop-at
-decreases-binary-loop-at l = remaining l.tokens l.value
+abbrev pub decreases-binary-loop-found : goal.decreases-binary-loop-found
+decreases-binary-loop-found l = remaining l.tokens l.value
