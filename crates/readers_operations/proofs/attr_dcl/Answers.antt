@@ -11,7 +11,7 @@ use mathlib.Core.Path.{refl}
 use Rattle.readers_operations.proofs.attr_dcl.Goals as goal
 
 pub list-names-requires : goal.list-names-requires
-list-names-requires c = (search rules, inr (inl refl))
+list-names-requires c = inr (inl refl)
 
 pub returns : goal.returns
 unfolding computing append

@@ -24,4 +24,4 @@ returns c =
     c.next_kind-next.ensures (tt, (differs c.eq.ensures c.if-eq.false)) (λ u. u) tt tt
 
 pub further-listed-requires : goal.further-listed-requires
-further-listed-requires c = (search rules, inr (inr (inr refl)))
+further-listed-requires c = inr (inr (inr refl))

@@ -12,7 +12,7 @@ use borrow.Author.Rules.{rules}
 use Rattle.readers_operations.proofs.parameters.Goals as goal
 
 pub list-requires : goal.list-requires
-list-requires c = (search rules, inr (inr (inl refl)))
+list-requires c = inr (inr (inl refl))
 
 pub returns-then-is_one_of : goal.returns-then-is_one_of
 unfolding computing

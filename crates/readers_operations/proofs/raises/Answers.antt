@@ -16,7 +16,7 @@ use borrow.Author.Rules.{rules}
 use Rattle.readers_operations.proofs.raises.Goals as goal
 
 pub list-names-requires : goal.list-names-requires
-list-names-requires c = (search rules, inl refl)
+list-names-requires c = inl refl
 
 pub returns-then-eq : goal.returns-then-eq
 unfolding computing

@@ -18,7 +18,7 @@ use Rattle.readers_structs.specs.Plans.{case_starts, type_starts}
 use Rattle.readers_structs.proofs.+members.Goals as goal
 
 pub case_clause-element_spec-element-requires : goal.case_clause-element_spec-element-requires
-case_clause-element_spec-element-requires t c = omega (arith, c.requires)
+case_clause-element_spec-element-requires t c = omega arith
 
 pub case_clause-returns : goal.case_clause-returns
 unfolding computing
@@ -28,10 +28,10 @@ case_clause-returns t c =
     (c.node.ensures.wraps refl _ _ _ tt))
 
 pub constr_type_spec-struct_type-requires : goal.constr_type_spec-struct_type-requires
-constr_type_spec-struct_type-requires t c = omega (arith, c.requires)
+constr_type_spec-struct_type-requires t c = omega arith
 
 pub constr_type_spec-union_type-requires : goal.constr_type_spec-union_type-requires
-constr_type_spec-union_type-requires t c = omega (arith, c.requires)
+constr_type_spec-union_type-requires t c = omega arith
 
 pub constr_type_spec-returns-in-STRUCT : goal.constr_type_spec-returns-in-STRUCT
 unfolding computing
@@ -50,7 +50,7 @@ constr_type_spec-returns-in_default t c =
     (omega arith) refl tt c.enum_type.ensures
 
 pub element_spec-type_spec-spec-requires : goal.element_spec-type_spec-spec-requires
-element_spec-type_spec-spec-requires t c = omega (arith, c.requires)
+element_spec-type_spec-spec-requires t c = omega arith
 
 pub element_spec-returns : goal.element_spec-returns
 unfolding computing
@@ -62,7 +62,7 @@ pub further_cases-loop-tree-init : goal.further_cases-loop-tree-init
 further_cases-loop-tree-init t c = no_turn
 
 pub further_cases-case_clause-last-requires : goal.further_cases-case_clause-last-requires
-further_cases-case_clause-last-requires t c = omega (arith, c.requires)
+further_cases-case_clause-last-requires t c = omega arith
 
 pub further_cases-loop-tree-smaller : goal.further_cases-loop-tree-smaller
 unfolding computing
@@ -86,7 +86,7 @@ pub further_members-loop-tree-init : goal.further_members-loop-tree-init
 further_members-loop-tree-init t c = no_turn
 
 pub further_members-member-last-requires : goal.further_members-member-last-requires
-further_members-member-last-requires t c = omega (arith, c.requires)
+further_members-member-last-requires t c = omega arith
 
 pub further_members-loop-tree-smaller : goal.further_members-loop-tree-smaller
 unfolding computing
@@ -107,7 +107,7 @@ further_members-returns t c =
     c.loop-tree.invariant
 
 pub member-type_spec-spec-requires : goal.member-type_spec-spec-requires
-member-type_spec-spec-requires t c = omega (arith, c.requires)
+member-type_spec-spec-requires t c = omega arith
 
 pub member-returns : goal.member-returns
 unfolding computing
@@ -116,10 +116,10 @@ member-returns t c =
     ((c.take-end.ensures.reads _ _).in_any _ _) ▸ (c.node.ensures.wraps refl _ _ _ tt))
 
 pub member_list-member-first-requires : goal.member_list-member-first-requires
-member_list-member-first-requires t c = omega (arith, c.requires)
+member_list-member-first-requires t c = omega arith
 
 pub member_list-further_members-last-requires : goal.member_list-further_members-last-requires
-member_list-further_members-last-requires t c = omega (arith, c.requires)
+member_list-further_members-last-requires t c = omega arith
 
 pub member_list-returns-then-starts_type : goal.member_list-returns-then-starts_type
 unfolding computing
@@ -149,7 +149,7 @@ unfolding computing
 struct_body-returns t c = enclosed c.open-inside.ensures c.member_list-members.ensures c.take.ensures
 
 pub struct_type-struct_body-body-requires : goal.struct_type-struct_body-body-requires
-struct_type-struct_body-body-requires t c = omega (arith, c.requires)
+struct_type-struct_body-body-requires t c = omega arith
 
 pub struct_type-returns : goal.struct_type-returns
 unfolding computing
@@ -173,10 +173,10 @@ unfolding computing
 switch_block-returns t c = enclosed c.open-inside.ensures c.switch_body-cases.ensures c.take.ensures
 
 pub switch_body-case_clause-first-requires : goal.switch_body-case_clause-first-requires
-switch_body-case_clause-first-requires t c = omega (arith, c.requires)
+switch_body-case_clause-first-requires t c = omega arith
 
 pub switch_body-further_cases-last-requires : goal.switch_body-further_cases-last-requires
-switch_body-further_cases-last-requires t c = omega (arith, c.requires)
+switch_body-further_cases-last-requires t c = omega arith
 
 pub switch_body-returns-then-starts_case : goal.switch_body-returns-then-starts_case
 unfolding computing
@@ -191,7 +191,7 @@ switch_body-returns t c =
     (is_out case_starts _ c.starts_case.ensures c.if-starts_case.false) (λ u. u) tt tt
 
 pub type_spec-constr_type_spec-requires : goal.type_spec-constr_type_spec-requires
-type_spec-constr_type_spec-requires t c = omega (arith, c.requires)
+type_spec-constr_type_spec-requires t c = omega arith
 
 pub type_spec-returns-in-STRUCT : goal.type_spec-returns-in-STRUCT
 unfolding computing
@@ -206,7 +206,7 @@ type_spec-returns-in_default t c =
     (omega arith) refl tt c.simple_type_spec.ensures
 
 pub union_rest-switch_block-block-requires : goal.union_rest-switch_block-block-requires
-union_rest-switch_block-block-requires t c = omega (arith, c.requires)
+union_rest-switch_block-block-requires t c = omega arith
 
 pub union_rest-returns : goal.union_rest-returns
 unfolding computing
@@ -217,7 +217,7 @@ union_rest-returns t c =
     }
 
 pub union_type-union_rest-requires : goal.union_type-union_rest-requires
-union_type-union_rest-requires t c = omega (arith, c.requires)
+union_type-union_rest-requires t c = omega arith
 
 pub union_type-returns : goal.union_type-returns
 unfolding computing

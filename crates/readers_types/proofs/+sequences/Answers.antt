@@ -11,7 +11,7 @@ use Rattle.readers_types.specs.Plans.{string_rule, strings}
 use Prim.Native.Nat.{ℕ}
 use borrow.Author.Rules.{rules}
 use mathlib.Core.List.{List, [], ◌∷◌}
-use mathlib.Core.Path.{◌∙◌, refl}
+use mathlib.Core.Path.{refl}
 use native.Mathlib.Omega.{arith}
 use Rattle.readers_types.proofs.+sequences.Goals as goal
 
@@ -27,7 +27,7 @@ sequence_body-overflow_sub-depth t c = omega (arith, room c.open-inside.ensures 
 
 pub sequence_body-simple_type_spec-element-requires : goal.sequence_body-simple_type_spec-element-requires
 sequence_body-simple_type_spec-element-requires t c =
-    let left = room c.open-inside.ensures c.has_stopped.ensures c.if-has_stopped.false in omega (arith, c.requires)
+    let left = room c.open-inside.ensures c.has_stopped.ensures c.if-has_stopped.false in omega arith
 
 pub sequence_body-overflow_sub-depth-2 : goal.sequence_body-overflow_sub-depth-2
 sequence_body-overflow_sub-depth-2 t c = omega (arith, room c.open-inside.ensures c.has_stopped.ensures c.if-has_stopped.false)
@@ -40,7 +40,7 @@ sequence_body-returns t c =
     }) c.take.ensures
 
 pub sequence_type-sequence_body-body-requires : goal.sequence_type-sequence_body-body-requires
-sequence_type-sequence_body-body-requires t c = omega (arith, c.requires)
+sequence_type-sequence_body-body-requires t c = omega arith
 
 pub sequence_type-returns : goal.sequence_type-returns
 unfolding passes_word
@@ -49,7 +49,7 @@ sequence_type-returns t c =
     (c.node.ensures.wraps refl _ _ _ tt))
 
 pub simple_type_spec-template_type_spec-requires : goal.simple_type_spec-template_type_spec-requires
-simple_type_spec-template_type_spec-requires t c = omega (arith, c.requires)
+simple_type_spec-template_type_spec-requires t c = omega arith
 
 pub simple_type_spec-returns-in-SEQUENCE : goal.simple_type_spec-returns-in-SEQUENCE
 unfolding passes_word
@@ -68,10 +68,7 @@ simple_type_spec-returns-in_default t c =
     (omega arith) refl tt (c.base_type_spec.ensures.at_any _)
 
 pub template_type_spec-sequence_type-requires : goal.template_type_spec-sequence_type-requires
-template_type_spec-sequence_type-requires t c = omega (arith, c.requires)
-
-pub template_type_spec-string_type-requires : goal.template_type_spec-string_type-requires
-template_type_spec-string_type-requires t c = (search rules, (search rules))
+template_type_spec-sequence_type-requires t c = omega arith
 
 pub template_type_spec-returns-in-SEQUENCE : goal.template_type_spec-returns-in-SEQUENCE
 unfolding passes_word

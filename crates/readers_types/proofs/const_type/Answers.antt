@@ -7,12 +7,12 @@ use Rattle.grammar.specs.Names.{rule}
 use Rattle.readers_core.proofs.Frames.{frame_on, passed_by, passed_on}
 use Rattle.readers_core.proofs.Choosing.{among, except}
 use Rattle.readers_core.proofs.Sequence.{◌▸◌, unrecorded}
-use Rattle.readers_names.proofs.Words.{by_word, is_kind, numbers, passes_word}
+use Rattle.readers_names.proofs.Words.{by_word, numbers, passes_word}
 use Rattle.readers_types.specs.Plans.{string_rule, strings}
 use Prim.Native.Nat.{ℕ}
 use borrow.Author.Rules.{rules}
 use mathlib.Core.List.{List, [], ◌∷◌}
-use mathlib.Core.Path.{◌∙◌, refl}
+use mathlib.Core.Path.{refl}
 use Rattle.readers_types.proofs.const_type.Goals as goal
 
 abbrev words : List ℕ
@@ -41,6 +41,3 @@ unfolding computing
 returns-in_default c =
     passed_on (rule "const_type") (except (strings ∷ words ∷ numbers ∷ [])) c.next_kind-next.ensures
     (omega arith) refl tt (c.scoped_name.ensures.at_any _)
-
-pub string_type-requires : goal.string_type-requires
-string_type-requires c = (search rules, (search rules))

@@ -5,7 +5,6 @@ use Rattle.kinds.specs.Lists.{only}
 use Rattle.readers_core.proofs.Computing.{computing}
 use Rattle.readers_core.proofs.Choosing.{among, except}
 use Rattle.readers_core.proofs.Lists.{one_part, several_parts}
-use borrow.Author.Rules.{rules}
 use mathlib.Core.List.{[], ◌∷◌}
 use mathlib.Core.Logic.{inl}
 use mathlib.Core.Path.{refl}
@@ -24,4 +23,4 @@ returns c =
     c.next_kind-next.ensures (tt, (differs c.eq.ensures c.if-eq.false)) (λ u. u) tt tt
 
 pub further-more-requires : goal.further-more-requires
-further-more-requires c = (search rules, inl refl)
+further-more-requires c = inl refl

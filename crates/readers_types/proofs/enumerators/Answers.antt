@@ -3,7 +3,6 @@
 use Rattle.readers_core.proofs.Computing.{computing}
 use Rattle.readers_core.proofs.Groups.{between}
 use Rattle.readers_core.proofs.Parts.{◌then◌}
-use borrow.Author.Rules.{rules}
 use mathlib.Core.Logic.{inr}
 use mathlib.Core.Path.{refl}
 use Rattle.readers_types.proofs.enumerators.Goals as goal
@@ -15,4 +14,4 @@ returns c =
     ((c.one_token-first.ensures.reads refl refl).at_any _ then c.further-more.ensures) c.take.ensures
 
 pub further-more-requires : goal.further-more-requires
-further-more-requires c = (search rules, inr refl)
+further-more-requires c = inr refl

@@ -7,22 +7,22 @@ use Rattle.readers_core.proofs.Loops.{no_turn, turn_less, turn_again, turned}
 use Rattle.readers_core.proofs.Parts.{◌then◌}
 use Rattle.readers_types.proofs.further.Goals as goal
 
-pub loop-comma-smaller : goal.loop-comma-smaller
+pub loop-rule-smaller : goal.loop-rule-smaller
 unfolding computing
-loop-comma-smaller c =
-    turn_less (only ",") c.next_kind.ensures (same c.eq.ensures c.loop-comma-test.true) tt
+loop-rule-smaller c =
+    turn_less (only ",") c.next_kind.ensures (same c.eq.ensures c.loop-rule-test.true) tt
     (c.take-comma.ensures.reads _ _ then c.item-items.ensures)
 
-pub loop-comma-preserved : goal.loop-comma-preserved
+pub loop-rule-preserved : goal.loop-rule-preserved
 unfolding computing
-loop-comma-preserved c =
-    turn_again (only ",") c.next_kind.ensures (same c.eq.ensures c.loop-comma-test.true) tt
+loop-rule-preserved c =
+    turn_again (only ",") c.next_kind.ensures (same c.eq.ensures c.loop-rule-test.true) tt
     (c.take-comma.ensures.reads _ _ then c.item-items.ensures) c.item-items.auto.tree
-    c.loop-comma.invariant
+    c.loop-rule.invariant
 
 pub returns : goal.returns
 unfolding computing
-returns c = turned (only ",") c.next_kind.ensures (tt, (differs c.eq.ensures c.loop-comma-test.false)) tt c.loop-comma.invariant
+returns c = turned (only ",") c.next_kind.ensures (tt, (differs c.eq.ensures c.loop-rule-test.false)) tt c.loop-rule.invariant
 
-pub loop-comma-init : goal.loop-comma-init
-loop-comma-init c = no_turn
+pub loop-rule-init : goal.loop-rule-init
+loop-rule-init c = no_turn

@@ -9,7 +9,7 @@ use Rattle.readers_names.proofs.Words.{names, passes_word}
 use Rattle.readers_types.specs.Plans.{string_rule, strings}
 use borrow.Author.Rules.{rules}
 use mathlib.Core.List.{[], ◌∷◌}
-use mathlib.Core.Path.{◌∙◌, refl}
+use mathlib.Core.Path.{refl}
 use Rattle.readers_types.proofs.param_type_spec.Goals as goal
 
 pub returns-in-STRING : goal.returns-in-STRING
@@ -29,6 +29,3 @@ unfolding computing
 returns-in_default c =
     passed_on (rule "param_type_spec") (except (names ∷ strings ∷ [])) c.next_kind-next.ensures (omega arith)
     refl tt (c.base_type_spec.ensures.at_any _)
-
-pub string_type-requires : goal.string_type-requires
-string_type-requires c = (search rules, (search rules))

@@ -6,11 +6,11 @@ use Rattle.kinds.specs.Lists.{kinds_of, only}
 use Rattle.grammar.specs.Names.{rule}
 use Rattle.readers_core.proofs.Frames.{passed_on}
 use Rattle.readers_core.proofs.Choosing.{among, except}
-use Rattle.readers_names.proofs.Words.{by_word, is_kind, passes_word}
+use Rattle.readers_names.proofs.Words.{by_word, passes_word}
 use Prim.Native.Nat.{ℕ}
 use borrow.Author.Rules.{rules}
 use mathlib.Core.List.{List, [], ◌∷◌}
-use mathlib.Core.Path.{◌∙◌, refl}
+use mathlib.Core.Path.{refl}
 use Rattle.readers_types.proofs.switch_type_spec.Goals as goal
 
 abbrev integers : List ℕ
