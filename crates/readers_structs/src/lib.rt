@@ -20,41 +20,44 @@ use readers_types::{
 };
 
 // Whether (44) type_spec may start with a token of the kind. Those up to the last keyword are told by one test of a bit.
+#[tactic(auto, unfolding(grammar::specs::Sets::elem))]
 pub fn starts_type(kind: Kind) -> bool
     ensures { result ≡ elem kind type_starts }
 {
     if Kind::LAST_KEYWORD < kind {
         return kind == Kind::SCOPE;
     }
-    match kind {
+    matches!(
+        kind,
         Kind::IDENTIFIER
-        | Kind::OBJECT
-        | Kind::VALUE_BASE
-        | Kind::ANY
-        | Kind::BOOLEAN
-        | Kind::CHAR
-        | Kind::DOUBLE
-        | Kind::FIXED
-        | Kind::LONG
-        | Kind::OCTET
-        | Kind::SEQUENCE
-        | Kind::STRING
-        | Kind::UNION
-        | Kind::WCHAR => true,
-        Kind::ENUM | Kind::FLOAT | Kind::SHORT | Kind::STRUCT | Kind::UNSIGNED | Kind::WSTRING =>
-            true,
-        _ => false,
-    }
+            | Kind::OBJECT
+            | Kind::VALUE_BASE
+            | Kind::ANY
+            | Kind::BOOLEAN
+            | Kind::CHAR
+            | Kind::DOUBLE
+            | Kind::ENUM
+            | Kind::FIXED
+            | Kind::FLOAT
+            | Kind::LONG
+            | Kind::OCTET
+            | Kind::SEQUENCE
+            | Kind::SHORT
+            | Kind::STRING
+            | Kind::STRUCT
+            | Kind::UNION
+            | Kind::UNSIGNED
+            | Kind::WCHAR
+            | Kind::WSTRING
+    )
 }
 
 // Whether (75) case may start with a token of the kind.
+#[tactic(auto, unfolding(grammar::specs::Sets::elem))]
 fn starts_case(kind: Kind) -> bool
     ensures { result ≡ elem kind case_starts }
 {
-    match kind {
-        Kind::CASE | Kind::DEFAULT => true,
-        _ => false,
-    }
+    matches!(kind, Kind::CASE | Kind::DEFAULT)
 }
 
 // (44) type_spec

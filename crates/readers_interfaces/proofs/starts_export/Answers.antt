@@ -28,10 +28,10 @@ others = kinds_of ("attribute" ∷ "const" ∷ "exception" ∷ "readonly" ∷ "u
 abbrev types : List ℕ
 types = kinds_of ("enum" ∷ "native" ∷ "struct" ∷ "typedef" ∷ [])
 
-pub returns-then-kind-gt-LAST_KEYWORD : goal.returns-then-kind-gt-LAST_KEYWORD
+pub returns-then-lt : goal.returns-then-lt
 unfolding AnyOf NoneOf below flat subset elem
-returns-then-kind-gt-LAST_KEYWORD c =
-    only_last (kind_of "wstring") low_export_starts (kind_of "::") _ tt c.if-kind-gt-LAST_KEYWORD.true
+returns-then-lt c =
+    only_last (kind_of "wstring") low_export_starts (kind_of "::") _ tt c.if-lt.true
 
 pub returns-in-TYPEDEF : goal.returns-in-TYPEDEF
 unfolding AnyOf NoneOf below flat subset elem
@@ -57,4 +57,4 @@ pub returns-in_default : goal.returns-in_default
 unfolding AnyOf NoneOf below flat subset elem
 returns-in_default c =
     starts_not (only "::" ∷ rest ∷ numbers ∷ results ∷ others ∷ types ∷ []) export_starts _ tt
-    ((omega arith), λ e. omega (arith, c.if-kind-gt-LAST_KEYWORD.false, e))
+    ((omega arith), λ e. omega (arith, c.if-lt.false, e))

@@ -4,7 +4,7 @@ use Rattle.readers_core.specs.Notation.{behind_comma}
 use Rattle.readers_operations.proofs.further.Given as goal
 
 abbrev pub invariant-loop-comma : goal.invariant-loop-comma
-invariant-loop-comma l = Turning (behind_comma l.rule) l.tokens l.initial.tree l.at l.depth l.initial.listed l.tree l.listed
+invariant-loop-comma l = Turning (behind_comma l.rule) l.tokens l.initial.tree l.initial.listed l.depth l.initial.listed l.tree l.listed
 
 abbrev pub decreases-loop-comma : goal.decreases-loop-comma
-decreases-loop-comma l = to_read l.tokens l.initial.tree l.at l.depth l.initial.listed l.tree l.listed
+decreases-loop-comma l = to_read l.tokens l.initial.tree l.initial.listed l.depth l.initial.listed l.tree l.listed

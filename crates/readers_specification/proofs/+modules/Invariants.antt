@@ -28,7 +28,7 @@ decreases-module_definition l = ranks * l.depth + rank "module_definition"
 
 abbrev pub invariant-definitions-loop-at : goal.invariant-definitions-loop-at
 invariant-definitions-loop-at l =
-    Beginning < "definition" > l.tokens l.initial.tree l.at l.depth l.initial.last l.tree l.last
+    Beginning < "definition" > l.tokens l.initial.tree l.initial.last l.depth l.initial.last l.tree l.last
 
 abbrev pub decreases-definitions-loop-at : goal.decreases-definitions-loop-at
 decreases-definitions-loop-at l = remaining l.tokens l.last

@@ -2,7 +2,7 @@
 -- Remaining depth falls at each opening mark, and else the rank of the reader. Assumes nothing.
 use Rattle.std.proofs.Common.{rules}
 use mathlib.Core.List.{[], ◌∷◌}
-use mathlib.Core.Path.{◌∙◌, refl}
+use mathlib.Core.Path.{refl}
 use native.Mathlib.Omega.{arith}
 use Rattle.kinds.specs.Lists.{kinds_of, only}
 use Rattle.grammar.specs.Names.{rule}

@@ -8,7 +8,7 @@ use Rattle.readers_core.proofs.Computing.{computing}
 use Rattle.readers_core.proofs.Frames.{frame_on, passed_on}
 use Rattle.readers_core.proofs.Sequence.{◌▸◌, unrecorded}
 use mathlib.Core.List.{[], ◌∷◌}
-use mathlib.Core.Path.{◌∙◌, refl}
+use mathlib.Core.Path.{refl}
 use Rattle.readers_structs.proofs.type_dcl.Goals as goal
 
 pub returns-in-TYPEDEF : goal.returns-in-TYPEDEF
