@@ -4,9 +4,11 @@
 #![tactic(auto)]
 
 ghost use Rattle.std.specs.Prelude.{◌≡◌, ℕ, List, ◌-◌, ◌%◌, ◌<◌, ◌==◌};
-ghost use Rattle.prediction.specs.plans.Plan.{token};
+ghost use Rattle.prediction.specs.plans.Plan.{call, token};
+ghost use Rattle.readers_core.specs.Course.{one};
+ghost use Rattle.readers_core.specs.Notation.{further, list_of};
 ghost use Rattle.readers_core.specs.Reading.{IsKind, kind_at, ahead, half, stop, blaming, sunk, Addressable, view, halted};
-ghost use Rattle.readers_core.specs.Reading.{beginning, Stops, Takes, Opens, Closes};
+ghost use Rattle.readers_core.specs.Reading.{beginning, Stops, Reads, Takes, Opens, Closes};
 
 use grammar::Rule;
 use kinds::Kind;
@@ -234,4 +236,33 @@ pub fn node(tree: &mut [u32], start: Reading, at: Reading, rule: Rule) -> Readin
         size,
     );
     Reading { state: counted }
+}
+
+// What stands in a list: the uses of one rule.
+pub trait Part {
+    ghost rule: { ℕ };
+
+    // Reads one.
+    fn read(tokens: &Tokens, tree: &mut [u32], at: Reading, depth: u32) -> Reading
+        ensures { Reads one tokens.now depth (call rule) (at, tree.old) (result, tree.new) };
+}
+
+// More of a list, each behind a comma.
+pub fn further<P: Part>(tokens: &Tokens, tree: &mut [u32], at: Reading, depth: u32) -> Reading
+    ensures { Reads one tokens.now depth (further P.rule) (at, tree.old) (result, tree.new) }
+{
+    let mut last = at;
+    while tokens.next_kind(last) == Kind::COMMA {
+        let comma = tokens.take(last, Kind::COMMA);
+        last = P::read(tokens, tree, comma, depth);
+    }
+    last
+}
+
+// A list: one at least.
+pub fn list<P: Part>(tokens: &Tokens, tree: &mut [u32], at: Reading, depth: u32) -> Reading
+    ensures { Reads one tokens.now depth (list_of P.rule) (at, tree.old) (result, tree.new) }
+{
+    let first = P::read(tokens, tree, at, depth);
+    further::<P>(tokens, tree, first, depth)
 }

@@ -49,39 +49,54 @@ fn bases(tokens: &Tokens, tree: &mut [u32], at: Reading) -> Reading
     }
 }
 
-// Whether (42) type_dcl may start with a token of the kind. Kinds that are neighbours stand in different arms, here and in the
-// other tests of what starts a rule: a row of them in one arm is compiled into tests of its ends.
+// Whether (42) type_dcl may start with a token of the kind.
+#[tactic(auto, unfolding(grammar::specs::Sets::elem))]
 pub fn starts_type_dcl(kind: Kind) -> bool
     ensures { result ≡ elem kind type_dcl_starts }
 {
-    match kind {
-        Kind::TYPEDEF | Kind::STRUCT | Kind::ENUM | Kind::NATIVE => true,
-        Kind::UNION => true,
-        _ => false,
-    }
+    matches!(
+        kind,
+        Kind::TYPEDEF | Kind::STRUCT | Kind::UNION | Kind::ENUM | Kind::NATIVE
+    )
 }
 
-// Whether (9) export may start with a token of the kind.
+// Whether (9) export may start with a token of the kind. Those up to the last keyword are told by one test of a bit.
+#[tactic(auto, unfolding(grammar::specs::Sets::elem))]
 pub fn starts_export(kind: Kind) -> bool
     ensures { result ≡ elem kind export_starts }
 {
     if Kind::LAST_KEYWORD < kind {
         return kind == Kind::SCOPE;
     }
-    match kind {
-        Kind::TYPEDEF | Kind::STRUCT | Kind::ENUM | Kind::NATIVE => true,
-        Kind::UNION | Kind::CONST | Kind::EXCEPTION | Kind::READONLY | Kind::ATTRIBUTE => true,
-        Kind::ONEWAY | Kind::VOID | Kind::STRING | Kind::WSTRING | Kind::IDENTIFIER => true,
-        Kind::FLOAT
-        | Kind::DOUBLE
-        | Kind::LONG
-        | Kind::SHORT
-        | Kind::UNSIGNED
-        | Kind::CHAR
-        | Kind::WCHAR => true,
-        Kind::BOOLEAN | Kind::OCTET | Kind::ANY | Kind::OBJECT | Kind::VALUE_BASE => true,
-        _ => false,
-    }
+    matches!(
+        kind,
+        Kind::TYPEDEF
+            | Kind::STRUCT
+            | Kind::UNION
+            | Kind::ENUM
+            | Kind::NATIVE
+            | Kind::CONST
+            | Kind::EXCEPTION
+            | Kind::READONLY
+            | Kind::ATTRIBUTE
+            | Kind::ONEWAY
+            | Kind::VOID
+            | Kind::STRING
+            | Kind::WSTRING
+            | Kind::IDENTIFIER
+            | Kind::FLOAT
+            | Kind::DOUBLE
+            | Kind::LONG
+            | Kind::SHORT
+            | Kind::UNSIGNED
+            | Kind::CHAR
+            | Kind::WCHAR
+            | Kind::BOOLEAN
+            | Kind::OCTET
+            | Kind::ANY
+            | Kind::OBJECT
+            | Kind::VALUE_BASE
+    )
 }
 
 // What is exported, with its ";".

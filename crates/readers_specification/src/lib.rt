@@ -66,14 +66,21 @@ fn other_definition(
 }
 
 // Whether (2) definition may start with a token of the kind.
+#[tactic(auto, unfolding(grammar::specs::Sets::elem))]
 fn starts_definition(kind: Kind) -> bool
     ensures { result ≡ elem kind definition_starts }
 {
-    match kind {
-        Kind::CONST | Kind::EXCEPTION | Kind::MODULE | Kind::ABSTRACT | Kind::INTERFACE => true,
-        Kind::LOCAL | Kind::CUSTOM | Kind::VALUETYPE => true,
-        _ => starts_type_dcl(kind),
-    }
+    matches!(
+        kind,
+        Kind::CONST
+            | Kind::EXCEPTION
+            | Kind::MODULE
+            | Kind::ABSTRACT
+            | Kind::INTERFACE
+            | Kind::LOCAL
+            | Kind::CUSTOM
+            | Kind::VALUETYPE
+    ) || starts_type_dcl(kind)
 }
 
 // What is defined, before its ";".

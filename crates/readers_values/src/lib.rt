@@ -134,28 +134,24 @@ fn init_dcl(tokens: &Tokens, tree: &mut [u32], at: Reading, depth: u32) -> Readi
     node(tree, at, end, Rule::INIT_DCL)
 }
 
-// (21) value_element. The kinds of "public" and "private" are neighbours, so each has an arm of its own.
+// (21) value_element
 fn value_element(tokens: &Tokens, tree: &mut [u32], at: Reading, depth: u32) -> Reading
     ensures { Reads one tokens.now depth < "value_element" > (at, tree.old) (result, tree.new) }
 {
     let next = tokens.next_kind(at);
     match next {
-        Kind::PUBLIC => state_member(tokens, tree, at, depth),
-        Kind::PRIVATE => state_member(tokens, tree, at, depth),
+        Kind::PUBLIC | Kind::PRIVATE => state_member(tokens, tree, at, depth),
         Kind::FACTORY => init_dcl(tokens, tree, at, depth),
         _ => export(tokens, tree, at, depth),
     }
 }
 
 // Whether (21) value_element may start with a token of the kind.
+#[tactic(auto, unfolding(grammar::specs::Sets::elem))]
 fn starts_element(kind: Kind) -> bool
     ensures { result ≡ elem kind element_starts }
 {
-    match kind {
-        Kind::PUBLIC | Kind::FACTORY => true,
-        Kind::PRIVATE => true,
-        _ => starts_export(kind),
-    }
+    matches!(kind, Kind::PUBLIC | Kind::PRIVATE | Kind::FACTORY) || starts_export(kind)
 }
 
 // Elements of a value, as many as there are.
