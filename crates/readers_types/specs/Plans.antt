@@ -31,10 +31,6 @@ behind_name =
     < "fixed_array_size" > ▸ (< "fixed_array_size" > *) ▸ make "array_declarator" ▸ make "complex_declarator"
     ∣ make "simple_declarator"
 
--- the rules whose uses stand in lists
-abbrev pub Listed : ℕ → Type 0
-Listed r = (r ≡ rule "declarator") ⊎ (r ≡ rule "enumerator")
-
 -- the enumerators of an enum
 abbrev pub enumerators : Plan
 enumerators = "{" ⟨ list_of (rule "enumerator") ⟩ "}"

@@ -3,16 +3,17 @@
 #![tactic(auto)]
 
 ghost use Rattle.std.specs.Prelude.{◌≡◌};
+ghost use Rattle.grammar.specs.Names.{rule};
 ghost use Rattle.prediction.specs.plans.Plan.{call, group};
-ghost use Rattle.readers_core.specs.Notation.{<◌>, ◌*, further};
+ghost use Rattle.readers_core.specs.Notation.{<◌>, ◌*};
 ghost use Rattle.readers_core.specs.Course.{one};
 ghost use Rattle.readers_core.specs.Reading.{IsKind, From, Reads, several};
-ghost use Rattle.readers_types.specs.Plans.{IsString, string_rule, fixed_bounds, behind_name, Listed, enumerators};
+ghost use Rattle.readers_types.specs.Plans.{IsString, string_rule, fixed_bounds, behind_name, enumerators};
 ghost use Rattle.readers_types.specs.Plans.{sequence_body, sequence_bound};
 
 use grammar::Rule;
 use kinds::Kind;
-use readers_core::{Reading, Tokens, inner, node};
+use readers_core::{Part, Reading, Tokens, further, inner, list, node};
 use readers_expressions::{const_exp, positive_int_const};
 use readers_names::{base_type_spec, integer_type, number_type, one_token, scoped_name, word_rule};
 
@@ -145,28 +146,26 @@ pub fn declarator(tokens: &Tokens, tree: &mut [u32], at: Reading, depth: u32) ->
     behind_name(tokens, tree, at, name, depth)
 }
 
-// What stands in a list: (50) declarator or (79) enumerator.
-fn item(tokens: &Tokens, tree: &mut [u32], at: Reading, depth: u32, rule: Rule) -> Reading
-    requires { Listed rule }
-    ensures { Reads one tokens.now depth (call rule) (at, tree.old) (result, tree.new) }
-{
-    match rule {
-        Rule::DECLARATOR => declarator(tokens, tree, at, depth),
-        _ => one_token(tokens, tree, at, Kind::IDENTIFIER, Rule::ENUMERATOR),
+// (50) declarator, in a list.
+struct Declared;
+
+impl Part for Declared {
+    ghost rule = { rule "declarator" };
+
+    fn read(tokens: &Tokens, tree: &mut [u32], at: Reading, depth: u32) -> Reading {
+        declarator(tokens, tree, at, depth)
     }
 }
 
-// More of a list, each behind a comma.
-fn further(tokens: &Tokens, tree: &mut [u32], at: Reading, depth: u32, rule: Rule) -> Reading
-    requires { Listed rule }
-    ensures { Reads one tokens.now depth (further rule) (at, tree.old) (result, tree.new) }
-{
-    let mut items = at;
-    while tokens.next_kind(items) == Kind::COMMA {
-        let comma = tokens.take(items, Kind::COMMA);
-        items = item(tokens, tree, comma, depth, rule);
+// (79) enumerator
+struct Enumerated;
+
+impl Part for Enumerated {
+    ghost rule = { rule "enumerator" };
+
+    fn read(tokens: &Tokens, tree: &mut [u32], at: Reading, _depth: u32) -> Reading {
+        one_token(tokens, tree, at, Kind::IDENTIFIER, Rule::ENUMERATOR)
     }
-    items
 }
 
 // (49) declarators: one alone leaves no record.
@@ -176,7 +175,7 @@ pub fn declarators(tokens: &Tokens, tree: &mut [u32], at: Reading, depth: u32) -
     let first = declarator(tokens, tree, at, depth);
     let next = tokens.next_kind(first);
     if next == Kind::COMMA {
-        let more = further(tokens, tree, first, depth, Rule::DECLARATOR);
+        let more = further::<Declared>(tokens, tree, first, depth);
         return node(tree, at, more, Rule::DECLARATORS);
     }
     first
@@ -187,9 +186,8 @@ fn enumerators(tokens: &Tokens, tree: &mut [u32], at: Reading, depth: u32) -> Re
     ensures { Reads one tokens.now depth enumerators (at, tree.old) (result, tree.new) }
 {
     let inside = tokens.open(at, Kind::OPEN_BRACE, depth);
-    let first = one_token(tokens, tree, inside, Kind::IDENTIFIER, Rule::ENUMERATOR);
-    let more = further(tokens, tree, first, inner(depth), Rule::ENUMERATOR);
-    tokens.take(more, Kind::CLOSE_BRACE)
+    let listed = list::<Enumerated>(tokens, tree, inside, inner(depth));
+    tokens.take(listed, Kind::CLOSE_BRACE)
 }
 
 // (78) enum_type

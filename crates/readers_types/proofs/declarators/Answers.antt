@@ -6,7 +6,6 @@ use Rattle.readers_core.proofs.Computing.{computing}
 use Rattle.readers_core.proofs.Choosing.{among, except}
 use Rattle.readers_core.proofs.Lists.{one_part, several_parts}
 use mathlib.Core.List.{[], ◌∷◌}
-use mathlib.Core.Logic.{inl}
 use mathlib.Core.Path.{refl}
 use Rattle.readers_types.proofs.declarators.Goals as goal
 
@@ -21,6 +20,3 @@ unfolding computing
 returns c =
     one_part refl c.declarator-first.ensures (except (only "," ∷ []))
     c.next_kind-next.ensures (tt, (differs c.eq.ensures c.if-eq.false)) (λ u. u) tt tt
-
-pub further-more-requires : goal.further-more-requires
-further-more-requires c = inl refl
