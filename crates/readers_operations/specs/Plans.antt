@@ -1,6 +1,6 @@
 -- The parts of plans that readers of operations, attributes and initializers follow, in the notation of the rules.
 -- Assumes nothing: these are definitions.
-use Rattle.std.specs.Prelude.{ℕ, ◌⊎◌, ◌≡◌, List, [], ◌∷◌}
+use Rattle.std.specs.Prelude.{ℕ, List, [], ◌∷◌}
 use Rattle.kinds.specs.Kinds.{string}
 use Rattle.kinds.specs.Lists.{kinds_of}
 use Rattle.grammar.specs.Names.{rule}
@@ -11,11 +11,6 @@ use Rattle.readers_names.specs.Plans.{string_literal}
 -- the words before a parameter
 abbrev pub directions : List ℕ
 directions = kinds_of ("in" ∷ "out" ∷ "inout" ∷ [])
-
--- the rules whose uses stand in lists
-abbrev pub Listed : ℕ → Type 0
-Listed r =
-    (r ≡ rule "scoped_name") ⊎ ((r ≡ rule "simple_declarator") ⊎ ((r ≡ rule "param_dcl") ⊎ (r ≡ rule "init_param_decl")))
 
 -- string literals behind commas
 abbrev pub further_strings : Plan

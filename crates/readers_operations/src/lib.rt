@@ -1,17 +1,17 @@
 // Readers of operations and attributes, and of the parameters of initializers.
 #![tactic(auto)]
 
-ghost use Rattle.prediction.specs.plans.Plan.{call};
-ghost use Rattle.readers_core.specs.Notation.{<◌>, further, list_of};
+ghost use Rattle.grammar.specs.Names.{rule};
+ghost use Rattle.readers_core.specs.Notation.{<◌>};
 ghost use Rattle.readers_core.specs.Course.{one};
 ghost use Rattle.readers_core.specs.Reading.{Flat, Reads, Takes};
-ghost use Rattle.readers_operations.specs.Plans.{Listed, further_strings, optional_parameters};
+ghost use Rattle.readers_operations.specs.Plans.{further_strings, optional_parameters};
 ghost use Rattle.readers_operations.specs.Plans.{optional_raises, optional_context, optional_oneway};
 ghost use Rattle.readers_operations.specs.Plans.{optional_readonly};
 
 use grammar::Rule;
 use kinds::Kind;
-use readers_core::{Reading, Tokens, inner, node};
+use readers_core::{Part, Reading, Tokens, further, inner, list, node};
 use readers_names::{is_one_of, one_of_three, one_token, scoped_name, string_literal};
 use readers_types::param_type_spec;
 
@@ -67,45 +67,48 @@ fn init_param_decl(tokens: &Tokens, tree: &mut [u32], at: Reading, depth: u32) -
     node(tree, at, name, Rule::INIT_PARAM_DECL)
 }
 
-// What stands in a list: (12) scoped_name, (51) simple_declarator, (91) param_dcl or (25) init_param_decl.
-fn item(tokens: &Tokens, tree: &mut [u32], at: Reading, depth: u32, rule: Rule) -> Reading
-    requires { Listed rule }
-    ensures { Reads one tokens.now depth (call rule) (at, tree.old) (result, tree.new) }
-{
-    match rule {
-        Rule::SCOPED_NAME => scoped_name(tokens, tree, at),
-        Rule::SIMPLE_DECLARATOR => one_token(
-            tokens,
-            tree,
-            at,
-            Kind::IDENTIFIER,
-            Rule::SIMPLE_DECLARATOR,
-        ),
-        Rule::PARAM_DCL => param_dcl(tokens, tree, at, depth),
-        _ => init_param_decl(tokens, tree, at, depth),
+// (12) scoped_name, in a list.
+struct Named;
+
+impl Part for Named {
+    ghost rule = { rule "scoped_name" };
+
+    fn read(tokens: &Tokens, tree: &mut [u32], at: Reading, _depth: u32) -> Reading {
+        scoped_name(tokens, tree, at)
     }
 }
 
-// More of a list, each behind a comma.
-fn further(tokens: &Tokens, tree: &mut [u32], at: Reading, depth: u32, rule: Rule) -> Reading
-    requires { Listed rule }
-    ensures { Reads one tokens.now depth (further rule) (at, tree.old) (result, tree.new) }
-{
-    let mut listed = at;
-    while tokens.next_kind(listed) == Kind::COMMA {
-        let comma = tokens.take(listed, Kind::COMMA);
-        listed = item(tokens, tree, comma, depth, rule);
+// (51) simple_declarator
+struct Declared;
+
+impl Part for Declared {
+    ghost rule = { rule "simple_declarator" };
+
+    fn read(tokens: &Tokens, tree: &mut [u32], at: Reading, _depth: u32) -> Reading {
+        one_token(tokens, tree, at, Kind::IDENTIFIER, Rule::SIMPLE_DECLARATOR)
     }
-    listed
 }
 
-// A list: one at least.
-fn list(tokens: &Tokens, tree: &mut [u32], at: Reading, depth: u32, rule: Rule) -> Reading
-    requires { Listed rule }
-    ensures { Reads one tokens.now depth (list_of rule) (at, tree.old) (result, tree.new) }
-{
-    let first = item(tokens, tree, at, depth, rule);
-    further(tokens, tree, first, depth, rule)
+// (91) param_dcl
+struct Parameter;
+
+impl Part for Parameter {
+    ghost rule = { rule "param_dcl" };
+
+    fn read(tokens: &Tokens, tree: &mut [u32], at: Reading, depth: u32) -> Reading {
+        param_dcl(tokens, tree, at, depth)
+    }
+}
+
+// (25) init_param_decl
+struct Initial;
+
+impl Part for Initial {
+    ghost rule = { rule "init_param_decl" };
+
+    fn read(tokens: &Tokens, tree: &mut [u32], at: Reading, depth: u32) -> Reading {
+        init_param_decl(tokens, tree, at, depth)
+    }
 }
 
 // (24) init_param_decls: one alone leaves no record.
@@ -115,7 +118,7 @@ pub fn init_param_decls(tokens: &Tokens, tree: &mut [u32], at: Reading, depth: u
     let first = init_param_decl(tokens, tree, at, depth);
     let next = tokens.next_kind(first);
     if next == Kind::COMMA {
-        let listed = further(tokens, tree, first, depth, Rule::INIT_PARAM_DECL);
+        let listed = further::<Initial>(tokens, tree, first, depth);
         return node(tree, at, listed, Rule::INIT_PARAM_DECLS);
     }
     first
@@ -127,7 +130,7 @@ fn parameters(tokens: &Tokens, tree: &mut [u32], at: Reading, depth: u32) -> Rea
 {
     let next = tokens.next_kind(at);
     if is_one_of(next, Kind::IN, Kind::OUT, Kind::INOUT) {
-        return list(tokens, tree, at, depth, Rule::PARAM_DCL);
+        return list::<Parameter>(tokens, tree, at, depth);
     }
     at
 }
@@ -150,7 +153,7 @@ fn raises(tokens: &Tokens, tree: &mut [u32], at: Reading, depth: u32) -> Reading
     if next == Kind::RAISES {
         let word = tokens.take(at, Kind::RAISES);
         let inside = tokens.open(word, Kind::OPEN_PARENTHESIS, depth);
-        let names = list(tokens, tree, inside, inner(depth), Rule::SCOPED_NAME);
+        let names = list::<Named>(tokens, tree, inside, inner(depth));
         let closed = tokens.take(names, Kind::CLOSE_PARENTHESIS);
         return node(tree, at, closed, Rule::RAISES_EXPR);
     }
@@ -227,6 +230,6 @@ pub fn attr_dcl(tokens: &Tokens, tree: &mut [u32], at: Reading, depth: u32) -> R
     let word = readonly(tokens, at);
     let words = tokens.take(word, Kind::ATTRIBUTE);
     let spec = param_type_spec(tokens, tree, words, depth);
-    let names = list(tokens, tree, spec, depth, Rule::SIMPLE_DECLARATOR);
+    let names = list::<Declared>(tokens, tree, spec, depth);
     node(tree, at, names, Rule::ATTR_DCL)
 }

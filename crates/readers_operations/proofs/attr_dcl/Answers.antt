@@ -5,13 +5,8 @@ use Rattle.grammar.specs.Names.{rule}
 use Rattle.readers_core.proofs.Frames.{frame}
 use Rattle.readers_core.proofs.Lines.{◌▸▸◌, append}
 use Rattle.readers_core.proofs.Sequence.{◌▸◌}
-use borrow.Author.Rules.{rules}
-use mathlib.Core.Logic.{inl, inr}
 use mathlib.Core.Path.{refl}
 use Rattle.readers_operations.proofs.attr_dcl.Goals as goal
-
-pub list-names-requires : goal.list-names-requires
-list-names-requires c = inr (inl refl)
 
 pub returns : goal.returns
 unfolding computing append

@@ -3,6 +3,7 @@ use Rattle.kinds.specs.Kinds.{kind_of, string}
 use Prim.Native.Nat.{ℕ}
 use Rattle.prediction.specs.plans.Plan.{seq, token}
 use Rattle.readers_core.specs.Course.{Course}
+use Rattle.readers_core.specs.Reading.{Reading}
 use Rattle.readers_core.proofs.Repetition.{Far, remaining}
 use Rattle.readers_names.specs.Plans.{string_literal}
 use mathlib.Core.List.{List}
@@ -10,8 +11,8 @@ use Rattle.readers_operations.proofs.further_strings.Given as goal
 
 abbrev pub invariant-loop-comma : goal.invariant-loop-comma
 invariant-loop-comma l =
-    (R : Course) (d : ℕ) (w : List ℕ) (start : ℕ) →
-    Far R l.tokens d start (seq (token (kind_of ",")) (string_literal string)) (l.at, w) (l.listed, w)
+    (R : Course) (d : ℕ) (w : List ℕ) (start : Reading) →
+    Far R l.tokens d start (seq (token (kind_of ",")) (string_literal string)) (l.initial.listed, w) (l.listed, w)
 
 abbrev pub decreases-loop-comma : goal.decreases-loop-comma
 decreases-loop-comma l = remaining l.tokens l.listed

@@ -5,9 +5,7 @@ use Rattle.kinds.specs.Lists.{only}
 use Rattle.readers_core.proofs.Computing.{computing}
 use Rattle.readers_core.proofs.Choosing.{among, except}
 use Rattle.readers_core.proofs.Lists.{one_part, several_parts}
-use borrow.Author.Rules.{rules}
 use mathlib.Core.List.{[], ◌∷◌}
-use mathlib.Core.Logic.{inr}
 use mathlib.Core.Path.{refl}
 use Rattle.readers_operations.proofs.init_param_decls.Goals as goal
 
@@ -22,6 +20,3 @@ unfolding computing
 returns c =
     one_part refl c.init_param_decl-first.ensures (except (only "," ∷ []))
     c.next_kind-next.ensures (tt, (differs c.eq.ensures c.if-eq.false)) (λ u. u) tt tt
-
-pub further-listed-requires : goal.further-listed-requires
-further-listed-requires c = inr (inr (inr refl))

@@ -7,14 +7,6 @@ use Rattle.readers_core.proofs.Sequence.{◌▸◌}
 use mathlib.Core.Path.{◌∙◌, refl}
 use Rattle.readers_operations.proofs.op_dcl.Goals as goal
 
-pub raises-raising-requires : goal.raises-raising-requires
-raises-raising-requires c =
-    c.requires
-
-pub context-whole-requires : goal.context-whole-requires
-context-whole-requires c =
-    c.requires
-
 pub shape_of-tree : goal.shape_of-tree
 shape_of-tree c =
     c.node.auto.tree ∙ c.context-whole.auto.tree ∙ c.raises-raising.auto.tree ∙

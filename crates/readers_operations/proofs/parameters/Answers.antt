@@ -5,14 +5,8 @@ use Rattle.readers_core.proofs.Computing.{computing}
 use Rattle.readers_core.proofs.Starts.{is_in, is_out}
 use Rattle.readers_core.proofs.Parts.{left_out, picked}
 use Rattle.readers_operations.specs.Plans.{directions}
-use mathlib.Core.Logic.{inl, inr}
-use mathlib.Core.Path.{refl}
 use mathlib.Core.List.{[], ◌∷◌}
-use borrow.Author.Rules.{rules}
 use Rattle.readers_operations.proofs.parameters.Goals as goal
-
-pub list-requires : goal.list-requires
-list-requires c = inr (inr (inl refl))
 
 pub returns-then-is_one_of : goal.returns-then-is_one_of
 unfolding computing

@@ -9,14 +9,9 @@ use Rattle.readers_core.proofs.Frames.{frame}
 use Rattle.readers_core.proofs.Groups.{between}
 use Rattle.readers_core.proofs.Sequence.{◌▸◌}
 use Rattle.readers_core.proofs.Parts.{left_out, picked}
-use mathlib.Core.Logic.{inl}
 use mathlib.Core.Path.{refl}
 use mathlib.Core.List.{[], ◌∷◌}
-use borrow.Author.Rules.{rules}
 use Rattle.readers_operations.proofs.raises.Goals as goal
-
-pub list-names-requires : goal.list-names-requires
-list-names-requires c = inl refl
 
 pub returns-then-eq : goal.returns-then-eq
 unfolding computing
