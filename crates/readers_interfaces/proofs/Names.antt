@@ -8,7 +8,7 @@ use Rattle.grammar.specs.Names.{rule}
 use Rattle.prediction.specs.plans.Plan.{Plan, call}
 use Rattle.readers_core.specs.Notation.{<◌>}
 use Rattle.readers_core.specs.Course.{one, table_in}
-use Rattle.readers_core.specs.Reading.{Reads}
+use Rattle.readers_core.specs.Reading.{Reading, Reads}
 use Rattle.readers_core.proofs.Choosing.{except, choose}
 use Rattle.readers_core.proofs.Frames.{passed_on}
 use Rattle.readers_interfaces.specs.Plans.{Names}
@@ -21,7 +21,7 @@ pub value_names : Names (rule "value_name")
 unfolding computing
 value_names = record { plan_is = refl; no_record = tt }
 
-pub by_name : {n : ℕ} {ks : List ℕ} {d s u : ℕ} {w w' : List ℕ} → Names n → Reads one ks d < "scoped_name" > (s, w) (u, w') →
+pub by_name : {n : ℕ} {ks : List ℕ} {d : ℕ} {s u : Reading} {w w' : List ℕ} → Names n → Reads one ks d < "scoped_name" > (s, w) (u, w') →
     Reads one ks d (call n) (s, w) (u, w')
 unfolding computing
 by_name {n} h x =

@@ -1,7 +1,7 @@
 -- `exported` reads by its plan: the kind ahead tells the choice.
 -- What the plan comes to is what was called. Assumes nothing.
 use Rattle.std.proofs.Common.{rules}
-use Rattle.std.proofs.Common.{◌∙◌, arith}
+use Rattle.std.proofs.Common.{arith}
 use Rattle.readers_core.proofs.Computing.{computing}
 use Rattle.kinds.specs.Lists.{kinds_of, only}
 use Rattle.readers_core.proofs.Choosing.{among, except}

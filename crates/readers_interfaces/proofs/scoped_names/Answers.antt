@@ -15,10 +15,10 @@ use Rattle.readers_interfaces.proofs.scoped_names.Goals as goal
 pub loop-comma-smaller : goal.loop-comma-smaller
 unfolding computing
 loop-comma-smaller c =
-    falls {R = one} {start = 0} (among (only ",")) c.next_kind.ensures
+    falls {R = one} {start = c.args.at} (among (only ",")) c.next_kind.ensures
     (same c.eq.ensures c.loop-comma-test.true) tt
     ((c.take-comma.ensures.reads 0 _ then
-    by_name interface_names (c.scoped_name-names-in-loop-comma.ensures.at_any 0)).in_any 0)
+    by_name interface_names (c.scoped_name-names-in-loop-comma.ensures.at_any 0)).in_any c.args.at)
 
 pub loop-comma-preserved : goal.loop-comma-preserved
 unfolding computing
