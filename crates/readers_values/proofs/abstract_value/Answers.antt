@@ -9,7 +9,7 @@ use Rattle.readers_core.proofs.Frames.{chosen}
 use Rattle.readers_core.proofs.Groups.{between}
 use Rattle.readers_core.proofs.Sequence.{◌▸◌, unrecorded}
 use Rattle.readers_core.proofs.Parts.{named}
-use mathlib.Core.Path.{◌∙◌, refl}
+use mathlib.Core.Path.{refl}
 use mathlib.Core.List.{[], ◌∷◌}
 use Rattle.readers_values.proofs.abstract_value.Goals as goal
 
@@ -20,11 +20,11 @@ returns-in-COLON c =
     (chosen (among (kinds_of ("supports" ∷ "{" ∷ ":" ∷ []))) c.next_kind-next.ensures (search rules)
     (((c.bases-bases.ensures.at_any _).in_any _ _ ▸
     (between c.open-inside.ensures c.inner.ensures c.exports-exports.ensures c.take-whole.ensures).in_any _ _ ▸
-    c.node.ensures.wraps refl _ _ _ tt) ▸ unrecorded tt))
+    c.node-in-COLON.ensures.wraps refl _ _ _ tt) ▸ unrecorded tt))
 
 pub returns-in_default : goal.returns-in_default
 unfolding computing
 returns-in_default c =
     named c.take-word.ensures c.take-name.ensures
     (chosen (except (kinds_of ("supports" ∷ "{" ∷ ":" ∷ []) ∷ [])) c.next_kind-next.ensures (omega arith)
-    (c.node-in_default.ensures.wraps refl _ _ _ tt ▸ unrecorded tt))
+    (c.node.ensures.wraps refl _ _ _ tt ▸ unrecorded tt))

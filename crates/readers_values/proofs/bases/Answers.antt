@@ -1,7 +1,7 @@
 -- `bases` reads by its plan: ":" or "supports" tells that bases are there; else nothing is read or written.
 -- What the plan comes to is what was called. Assumes nothing.
 use Rattle.std.proofs.Common.{rules}
-use Rattle.std.proofs.Common.{◌∙◌, arith}
+use Rattle.std.proofs.Common.{arith}
 use Rattle.readers_core.proofs.Computing.{computing}
 use Rattle.kinds.specs.Lists.{kinds_of}
 use Rattle.readers_core.proofs.Choosing.{among, except}

@@ -9,7 +9,7 @@ use Rattle.readers_core.proofs.Frames.{chosen}
 use Rattle.readers_core.proofs.Sequence.{◌▸◌}
 use Rattle.readers_core.proofs.Starts.{is_in, is_out}
 use Rattle.readers_structs.specs.Plans.{type_starts}
-use mathlib.Core.Path.{◌∙◌, refl}
+use mathlib.Core.Path.{refl}
 use mathlib.Core.List.{[], ◌∷◌}
 use Rattle.readers_values.proofs.behind_name.Goals as goal
 

@@ -1,6 +1,6 @@
 -- `parameters` reads by its plan: "in" tells that parameters are there.
 -- What the plan comes to is what was called. Assumes nothing.
-use Rattle.std.proofs.Common.{◌∙◌, arith}
+use Rattle.std.proofs.Common.{arith}
 use Rattle.readers_core.proofs.Computing.{computing}
 use Rattle.kinds.specs.Lists.{only}
 use Rattle.readers_core.proofs.Choosing.{among, except}

@@ -7,7 +7,7 @@ use Rattle.grammar.specs.Names.{rule}
 use Rattle.readers_core.proofs.Choosing.{among, except}
 use Rattle.readers_core.proofs.Frames.{frame_on}
 use Rattle.readers_core.proofs.Sequence.{◌▸◌}
-use mathlib.Core.Path.{◌∙◌, refl}
+use mathlib.Core.Path.{refl}
 use mathlib.Core.List.{[], ◌∷◌}
 use Rattle.readers_values.proofs.value_inheritance_spec.Goals as goal
 
