@@ -43,7 +43,7 @@ fn other_definition(
     at: Reading,
     depth: u32,
 ) -> Reading
-    requires no_module { ahead tokens.now at ≡ kind_of "module" → ⊥ }
+    requires { ahead tokens.now at ≡ kind_of "module" → ⊥ }
     ensures { Within one tokens.now depth start defined (at, tree.old) (result, tree.new) }
 {
     let next = tokens.next_kind(at);

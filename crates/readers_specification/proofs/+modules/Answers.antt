@@ -8,17 +8,17 @@ use Rattle.readers_core.proofs.Frames.{frame}
 use Rattle.readers_core.proofs.Groups.{enclosed, room, shut_out}
 use Rattle.readers_core.proofs.Starts.{is_in, is_out}
 use Rattle.readers_core.proofs.Sequence.{◌▸◌, stays}
-use Rattle.readers_core.proofs.Views.{stopped_if}
+use Rattle.readers_core.proofs.Halting.{stopped_if}
 use Rattle.readers_core.proofs.Loops.{no_part, part_less, part_again, last_part}
 use Rattle.readers_core.proofs.Parts.{here, picked_here}
 use Rattle.readers_specification.specs.Plans.{definition_starts}
-use mathlib.Core.Path.{◌∙◌, refl}
+use mathlib.Core.Path.{refl}
 use native.Mathlib.Omega.{arith}
 use Rattle.readers_specification.proofs.+modules.Goals as goal
 
 pub defined-other_definition-requires : goal.defined-other_definition-requires
 defined-other_definition-requires t c =
-    record { addressable = c.requires; no_module = λ e. (omega arith).1 (c.next_kind-next.ensures ∙ e) }
+    λ e. omega (arith, c.next_kind-next.ensures, e)
 
 pub defined-returns-in-MODULE : goal.defined-returns-in-MODULE
 unfolding computing
@@ -35,27 +35,27 @@ definition-returns t c =
     frame (rule "definition") (c.defined-defined.ensures.of_any _ ▸ (c.take-mark.ensures.reads _ _).in_any _ _ ▸
     c.node.ensures.wraps refl _ _ _ tt)
 
-pub definitions-loop-at-init : goal.definitions-loop-at-init
-definitions-loop-at-init t c = no_part
+pub definitions-loop-last-init : goal.definitions-loop-last-init
+definitions-loop-last-init t c = no_part
 
 pub definitions-returns-then-not-starts_definition : goal.definitions-returns-then-not-starts_definition
 unfolding computing
 definitions-returns-then-not-starts_definition t c =
     last_part definition_starts c.next_kind.ensures c.definition-last.ensures
-    (is_out definition_starts _ c.starts_definition.ensures c.if-not-starts_definition.true) tt c.loop-at.invariant
+    (is_out definition_starts _ c.starts_definition.ensures c.if-not-starts_definition.true) tt c.loop-last.invariant
 
-pub definitions-loop-at-smaller : goal.definitions-loop-at-smaller
+pub definitions-loop-last-smaller : goal.definitions-loop-last-smaller
 unfolding computing
-definitions-loop-at-smaller t c =
+definitions-loop-last-smaller t c =
     part_less definition_starts c.next_kind.ensures c.definition-last.ensures
     (is_in definition_starts _ c.starts_definition.ensures c.if-not-starts_definition.false) tt
 
-pub definitions-loop-at-preserved : goal.definitions-loop-at-preserved
+pub definitions-loop-last-preserved : goal.definitions-loop-last-preserved
 unfolding computing
-definitions-loop-at-preserved t c =
+definitions-loop-last-preserved t c =
     part_again definition_starts c.next_kind.ensures c.definition-last.ensures
     (is_in definition_starts _ c.starts_definition.ensures c.if-not-starts_definition.false) tt c.definition-last.auto.tree
-    c.loop-at.invariant
+    c.loop-last.invariant
 
 pub module_definition-returns-then-has_stopped : goal.module_definition-returns-then-has_stopped
 unfolding computing

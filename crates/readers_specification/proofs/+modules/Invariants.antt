@@ -26,9 +26,9 @@ decreases-definitions l = ranks * l.depth + rank "definitions"
 abbrev pub decreases-module_definition : goal.decreases-module_definition
 decreases-module_definition l = ranks * l.depth + rank "module_definition"
 
-abbrev pub invariant-definitions-loop-at : goal.invariant-definitions-loop-at
-invariant-definitions-loop-at l =
+abbrev pub invariant-definitions-loop-last : goal.invariant-definitions-loop-last
+invariant-definitions-loop-last l =
     Beginning < "definition" > l.tokens l.initial.tree l.initial.last l.depth l.initial.last l.tree l.last
 
-abbrev pub decreases-definitions-loop-at : goal.decreases-definitions-loop-at
-decreases-definitions-loop-at l = remaining l.tokens l.last
+abbrev pub decreases-definitions-loop-last : goal.decreases-definitions-loop-last
+decreases-definitions-loop-last l = remaining l.tokens l.last

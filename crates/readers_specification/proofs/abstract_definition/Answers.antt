@@ -1,6 +1,6 @@
 -- `abstract_definition` reads by its plan: "interface" tells the first choice, and else the second is taken.
 -- What the plan comes to is what was called. Assumes nothing.
-use Rattle.std.proofs.Common.{◌∙◌, arith}
+use Rattle.std.proofs.Common.{arith}
 use Rattle.readers_core.proofs.Computing.{computing}
 use Rattle.kinds.specs.Lists.{only}
 use Rattle.readers_core.proofs.Choosing.{among, except}

@@ -46,4 +46,4 @@ unfolding computing
 returns-in_default c =
     picked_here (except (only "module" ∷ only "valuetype" ∷ only "custom" ∷ only "interface" ∷ only "local" ∷ only "abstract" ∷
     only "exception" ∷ only "const" ∷ [])) c.next_kind-next.ensures
-    ((omega arith), λ e. c.requires.no_module (sym c.next_kind-next.ensures ∙ e)) (here c.type_dcl.ensures)
+    ((omega arith), λ e. c.requires (sym c.next_kind-next.ensures ∙ e)) (here c.type_dcl.ensures)
