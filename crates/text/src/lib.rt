@@ -7,24 +7,29 @@ ghost use Rattle.text.specs.Classes.{starless, ordinary, member, block};
 ghost use Rattle.text.specs.Literals.{plain};
 
 // What stands at the front of the rest of a text. Lengths are in bytes.
-#[derive(Drop)]
+#[derive(Clone, Copy, PartialEq, Eq)]
 pub enum Lexeme {
     // White space, or a comment.
     Blank(usize),
     // A token: its kind and its length.
     Token(u32, usize),
+}
+
+// Why no lexeme stands there.
+#[derive(Clone, Copy, PartialEq, Eq)]
+pub enum Fault {
     // Reply 2: no lexeme starts here.
     NoLexeme,
-    // Reply 3: a comment or a literal that is open at the end.
+    // Reply 3: a comment that is open at the end of the text, or a literal at a line end or there.
     Open,
-    // Reply 4: a bad literal.
+    // Reply 4: a bad literal, with a byte, an escape or a number of characters that is not allowed.
     BadLiteral,
     // Reply 5: the keyword of this kind, in another case.
     OtherCase(u32),
 }
 
 // What stands next inside a character or string literal. Lengths are in bytes.
-#[derive(Drop)]
+#[derive(Clone, Copy, PartialEq, Eq)]
 pub enum Piece {
     // A character other than zero.
     Character(usize),
@@ -32,10 +37,6 @@ pub enum Piece {
     Zero(usize),
     // The closing quote.
     Close,
-    // A line end or the end of the text, also inside an escape.
-    Unclosed,
-    // A byte or an escape that is not allowed.
-    Bad,
 }
 
 // The classes of which a lexeme has bytes in a row.
