@@ -6,6 +6,7 @@ use mathlib.Core.Path.{◌≡◌, refl, ap, sym, ◌∙◌}
 use Prim.Native.Nat.{ℕ, zero, suc, pred, ◌+◌, ◌-◌, ◌≤◌, ◌<◌}
 use native.Mathlib.Nat.{add-zero}
 use native.Mathlib.Omega.{arith}
+use Rattle.std.specs.Prelude.{Result, Ok, Err}
 use lib.ListN.{length, drop, length-append, length-drop}
 use lib.Seq.{drop-drop, drop-length}
 use Rattle.tables.specs.Tables.{token_width, put, store}
@@ -18,8 +19,9 @@ use Rattle.text.specs.declared.Lexeme.{Lexeme}
 use Rattle.text.specs.declared.Lexeme.TheVariants.{Blank, Token}
 use Rattle.replies.specs.declared.Reply.{Reply}
 use Rattle.replies.specs.Faults.{Fault, row}
-use Rattle.tokens.specs.Answer.{Scanned, all_tokens, first_fault}
-use Rattle.tokens.specs.declared.Found.TheVariants as found
+use Rattle.tokens.specs.Answer.{Scanned, all_tokens, first_fault, fault_at}
+use Rattle.text.specs.declared.Fault as declared
+use Rattle.text.specs.declared.Fault.TheVariants.{NoLexeme, Open, BadLiteral, OtherCase}
 use Rattle.text.proofs.Sizes.{SizedOr}
 use Rattle.lexemes.proofs.Sizes.{lexeme_sized}
 use Rattle.lexemes.proofs.Sorting.{lexeme_space}
@@ -43,6 +45,14 @@ after_none : (ts : List (List ℕ)) → after ts (tokens []) ≡ tokens ts
 unfolding after before
 after_none [] = refl
 after_none (x ∷ ts) = ap (before x) (after_none ts)
+
+-- where no lexeme stands, nothing that follows matters
+then_fault : (f : declared.Fault) (place : ℕ) (rest : ℕ → Tokens) → then (Err f) place rest ≡ fault (fault_at place f)
+unfolding then
+then_fault NoLexeme place rest = refl
+then_fault Open place rest = refl
+then_fault BadLiteral place rest = refl
+then_fault (OtherCase kind) place rest = refl
 
 -- the rest of a text by its first lexeme
 unroll : (most place : ℕ) (bs : List ℕ) → 0 < most → 0 < length bs →
@@ -87,7 +97,7 @@ module _ (text table₀ : List ℕ) where
 
   module _ {table : List ℕ} {at n : ℕ} (h : at < length text) (r : Reading text table₀ table at n) where
     -- the whole text by the next lexeme
-    next : {l : Lexeme} → l ≡ lexeme (drop at text) →
+    next : {l : Result Lexeme declared.Fault} → l ≡ lexeme (drop at text) →
         tokens_of text ≡ after r.passed (then l at (λ k. tokens_in (pred r.most) (at + k) (drop (at + k) text)))
     next {l} e =
         let most = r.most in
@@ -97,10 +107,10 @@ module _ (text table₀ : List ℕ) where
         ∙ rw (sym e, same)
 
     -- it lies in the text
-    pub next_sized : {l : Lexeme} → l ≡ lexeme (drop at text) → SizedOr (CaseAlone (spelled (drop at text))) (length text - at) l
+    pub next_sized : {l : Result Lexeme declared.Fault} → l ≡ lexeme (drop at text) → SizedOr (CaseAlone (spelled (drop at text))) (length text - at) l
     next_sized {l} e = rw (e, ← length-drop at text) (lexeme_sized (drop at text) (omega (arith, length-drop at text)))
 
-    pub reading_blank : {k : ℕ} → Blank k ≡ lexeme (drop at text) → Reading text table₀ table (at + k) n
+    pub reading_blank : {k : ℕ} → Ok (Blank k) ≡ lexeme (drop at text) → Reading text table₀ table (at + k) n
     unfolding then
     reading_blank {k} e =
         let w = next_sized e in
@@ -115,7 +125,7 @@ module _ (text table₀ : List ℕ) where
           stored = r.stored;
         }
 
-    pub reading_token : {kind k : ℕ} → Token kind k ≡ lexeme (drop at text) →
+    pub reading_token : {kind k : ℕ} → Ok (Token kind k) ≡ lexeme (drop at text) →
         Reading text table₀ (put token_width table n (token kind at k)) (at + k) (n + 1)
     unfolding then
     reading_token {kind} {k} e =
@@ -133,11 +143,11 @@ module _ (text table₀ : List ℕ) where
         }
 
     -- a fault decides what the text is
-    pub reading_fault : {l : Lexeme} {reply : Reply} {after : List ℕ} (f : Fault) → ((rest : ℕ → Tokens) → then l at rest ≡ fault f) →
-        l ≡ lexeme (drop at text) → reply ≡ row f → Scanned (tokens_of text) table₀ after (found.Fault reply)
-    reading_fault f here e d =
-        let whole : tokens_of text ≡ fault f = next e ∙ ap (after r.passed) (here _) ∙ after_fault r.passed f in
-        rw (whole, d) (first_fault f)
+    pub reading_fault : {f : declared.Fault} {reply : Reply} {after : List ℕ} → Err f ≡ lexeme (drop at text) → reply ≡ row (fault_at at f) →
+        Scanned (tokens_of text) table₀ after (Err reply)
+    reading_fault {f} e d =
+        let whole : tokens_of text ≡ fault (fault_at at f) = next e ∙ ap (after r.passed) (then_fault f at _) ∙ after_fault r.passed (fault_at at f) in
+        rw (whole, d) (first_fault (fault_at at f))
 
   -- white space is passed at once
   pub reading_space : {table : List ℕ} {at n : ℕ} → Reading text table₀ table at n →
@@ -161,7 +171,7 @@ module _ (text table₀ : List ℕ) where
 
   -- and so does the end of the text
   pub reading_ends : {table : List ℕ} {at n : ℕ} → length text ≤ at → Reading text table₀ table at n →
-      Scanned (tokens_of text) table₀ table (found.Tokens n)
+      Scanned (tokens_of text) table₀ table (Ok n)
   reading_ends {table} {at} {n} h r =
       let e : at ≡ length text = omega (arith, r.within) in
       let d : drop at text ≡ [] = ap (λ (k : ℕ). drop k text) e ∙ drop-length text in
