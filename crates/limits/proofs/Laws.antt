@@ -1,6 +1,6 @@
 -- Which limits the constructor answers tells whether the call is good; the text of a good call is not too long.
 -- By the cases of the tests. Assumes nothing.
-use Rattle.std.proofs.Common.{◌≡◌, refl, ℕ, Bool, true, false, ◌&&◌, cond, Option, Some, None}
+use Rattle.std.proofs.Common.{◌≡◌, refl, ℕ, Bool, true, false, ◌&&◌, cond, Some, None}
 use Rattle.limits.specs.declared.Limits.{Limits}
 use Rattle.limits.specs.Limits.{good_text, good_depth, good_call, bounded}
 
