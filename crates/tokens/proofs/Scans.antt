@@ -107,8 +107,14 @@ module _ (text table₀ : List ℕ) where
         ∙ rw (sym e, same)
 
     -- it lies in the text
-    pub next_sized : {l : Result Lexeme declared.Fault} → l ≡ lexeme (drop at text) → SizedOr (CaseAlone (spelled (drop at text))) (length text - at) l
+    next_sized : {l : Result Lexeme declared.Fault} → l ≡ lexeme (drop at text) → SizedOr (CaseAlone (spelled (drop at text))) (length text - at) l
     next_sized {l} e = rw (e, ← length-drop at text) (lexeme_sized (drop at text) (omega (arith, length-drop at text)))
+
+    pub blank_sized : {k : ℕ} → Ok (Blank k) ≡ lexeme (drop at text) → (0 < k) × (at + k ≤ length text)
+    blank_sized e = let w = next_sized e in (w.0, omega (arith, w.1))
+
+    pub token_sized : {kind k : ℕ} → Ok (Token kind k) ≡ lexeme (drop at text) → (0 < k) × (at + k ≤ length text)
+    token_sized e = let w = next_sized e in (w.0, omega (arith, w.1))
 
     pub reading_blank : {k : ℕ} → Ok (Blank k) ≡ lexeme (drop at text) → Reading text table₀ table (at + k) n
     unfolding then

@@ -18,7 +18,10 @@ use text::{Class, Fault, Lexeme, Space};
 fn is_space_at(text: &[u8], place: usize) -> bool
     ensures { result ≡ space (at text.now place) }
 {
-    text::byte_at(text, place).is_some_and(|byte| byte <= b' ' && Space::has(byte))
+    match text::byte_at(text, place) {
+        Some(byte) if byte <= b' ' => Space::has(byte),
+        _ => false,
+    }
 }
 
 // The place behind the white space that stands at a place: mostly none or one byte, otherwise a row of them.
