@@ -56,11 +56,10 @@ fn scan(text: &[u8], tokens: &mut [u32]) -> Result<usize, Reply>
     requires { length text.now < number_end }
     ensures { Scanned (tokens_of text.now) tokens.old tokens.new result }
 {
-    let words = words::words();
     let mut at = 0;
     let mut count = 0;
     while at < text.len() {
-        match lexeme(&words, &text[at..]) {
+        match lexeme(&text[at..]) {
             Ok(Lexeme::Blank(size)) => at = past_space(text, at + size),
             Ok(Lexeme::Token(kind, size)) => {
                 put(tokens, count, [kind, at as u32, size as u32]);
