@@ -8,9 +8,9 @@ use Rattle.tokens.proofs.read_tokens.Goals as goal
 pub overflow_cast-count : goal.overflow_cast-count
 overflow_cast-count c = omega (arith, few _ _ (sym c.takes.ensures ∙ c.if-not-takes.false) c.in-Ok.ensures)
 
-pub overflow_cast-count-in-Ok : goal.overflow_cast-count-in-Ok
-overflow_cast-count-in-Ok c = omega (arith, few _ _ (sym c.takes.ensures ∙ c.if-not-takes.false) c.in-Ok.ensures)
+pub overflow_cast-count-in-Ok-2 : goal.overflow_cast-count-in-Ok-2
+overflow_cast-count-in-Ok-2 c = omega (arith, few _ _ (sym c.takes.ensures ∙ c.if-not-takes.false) c.in-Ok.ensures)
 
-pub returns-then-count-tokens-clause-table : goal.returns-then-count-tokens-clause-table
-returns-then-count-tokens-clause-table c =
+pub returns-in-Ok-clause-table : goal.returns-in-Ok-clause-table
+returns-in-Ok-clause-table c =
     room_kept _ _ (sym c.takes.ensures ∙ c.if-not-takes.false) c.in-Ok.ensures (omega (arith, c.scan.auto.tokens))
