@@ -8,11 +8,21 @@ ghost use Rattle.streams.specs.Transfer.{Within};
 
 use printing::{LONGEST, ROOM};
 use std::fmt::InlineText;
-use std::io::{Eprint, Error, Read, Write};
-use streams::Transfer;
+use std::io;
+use std::io::{Eprint, Read, Write};
+use thiserror::Error;
 
-// The most bytes of why a call failed, with the system's number for it.
-const REASON: usize = 128;
+// The most bytes of what failed and why, with the system's number for it.
+const REASON: usize = 160;
+
+// What failed, and why.
+#[derive(Debug, Drop, Error)]
+enum Failure {
+    #[error("standard input: {0}")]
+    Input(io::Error),
+    #[error("standard output: {0}")]
+    Output(io::Error),
+}
 
 // The system's words in the text of an error, without the number that stands behind them.
 fn words(text: &str) -> &str {
@@ -23,36 +33,30 @@ fn words(text: &str) -> &str {
 }
 
 // Says on standard error what failed and why, in one line. Where that fails too, there is nowhere left to say it.
-fn fail(rt: &impl Eprint, what: &str, error: Error) {
-    let text = InlineText::<REASON>::of(error);
+fn say(rt: &impl Eprint, failure: Failure) {
+    let text = InlineText::<REASON>::of(failure);
     let why = words(text.as_str());
-    let _ = eprintln!(rt; "idl: {what}: {why}");
+    let _ = eprintln!(rt; "idl: {why}");
 }
 
 // There is room for more than the longest text, so that a longer input is seen to be longer.
-fn read<R: Read>(input: &mut R, text: &mut [u8]) -> Transfer
+fn read<R: Read>(input: &mut R, text: &mut [u8]) -> io::Result<usize>
     requires { longest < length text.old }
     ensures { Within (length text.new) result }
 {
     streams::read_all(input, text)
 }
 
-fn print<W: Write>(rt: &impl Eprint, output: &mut W, text: &[u8]) {
+fn answer<R: Read, W: Write>(input: &mut R, output: &mut W) -> Result<(), Failure> {
+    let mut text = [0u8; LONGEST + 1];
+    let size = read(input, &mut text).map_err(Failure::Input)?;
     let mut out = [0u8; ROOM];
-    let size = printing::put_answer(text, &mut out);
-    if let Err(error) = streams::write_all(output, &out[..size]) {
-        fail(rt, "standard output", error);
-    }
+    let end = printing::put_answer(&text[..size], &mut out);
+    streams::write_all(output, &out[..end]).map_err(Failure::Output)
 }
 
 fn main(rt: HostRuntime) {
-    let mut text = [0u8; LONGEST + 1];
-    match read(&mut rt.stdin(), &mut text) {
-        Transfer::Bytes(size) => print(&rt, &mut rt.stdout(), &text[..size]),
-        Transfer::Interrupted(error) | Transfer::Failed(error) => fail(
-            &rt,
-            "standard input",
-            error,
-        ),
+    if let Err(failure) = answer(&mut rt.stdin(), &mut rt.stdout()) {
+        say(&rt, failure);
     }
 }

@@ -227,14 +227,8 @@ pub fn node(tree: &mut [u32], start: Reading, at: Reading, rule: Rule) -> Readin
     }
     let place = high(at.state);
     let size = high(counted.wrapping_sub(start.state));
-    tables::put_node(
-        tree,
-        place as usize,
-        u32::from(rule),
-        low(start.state),
-        low(at.state),
-        size,
-    );
+    let record = [u32::from(rule), low(start.state), low(at.state), size];
+    tables::put(tree, place as usize, record);
     Reading { state: counted }
 }
 

@@ -1,39 +1,59 @@
--- The fewest decimal digits that hold a 32-bit number are as many as `width` says, and at most ten.
+-- What std writes for a 32-bit number is the number in decimal digits, as the definition has it, and those are ten at most.
 -- By induction on the digits: a number of two or more digits has one more than its tenth part. Assumes nothing.
-use Prim.Native.Nat.{ℕ, zero, suc, ◌-◌, ◌/◌, ◌^◌, ◌≤◌, ◌<◌}
-use mathlib.Core.Bool.{Bool, true, false, cond}
-use mathlib.Core.Path.{◌≡◌, refl, ap, subst}
-use native.Mathlib.Nat.{pow-succ', one-le-pow}
-use native.Mathlib.Omega.{arith}
-use borrow.Author.Tests.{lt-ltb, le-ltb}
+use Rattle.std.proofs.Common.{◌≡◌, ℕ, zero, suc, ◌/◌, ◌%◌, ◌^◌, ◌<◌, ◌≤◌, Bool, true, false, cond, List, [], ◌∷◌, ◌++◌, refl, sym, ◌∙◌, arith, length, append_assoc, append-nil}
+use Rattle.std.specs.Fmt.{decimal, digits, digits_onto}
+use native.Mathlib.Nat.{pow-succ'}
+use borrow.Author.Tests.{eq-eqb, ne_eqb, ltb-true, ltb-false}
 use lib.Dec.{ltb}
-use Rattle.io.specs.Digits.{IsDigitCount}
-use Rattle.report.specs.Report.{base, width}
+use lib.ListN.{length-append}
+use Rattle.io.specs.Digits.{hex_digit_ascii, last_digits}
+use Rattle.report.specs.Report.{base, further_digits, width, number}
 
-one_less : (j : ℕ) → suc j - 1 ≡ j
-one_less j = omega arith
+one_digit : (k n : ℕ) (list : List ℕ) → n < base → digits_onto (suc k) base false n list ≡ hex_digit_ascii (n % base) ∷ list
+one_digit k n list low =
+    let none : n / base ≡ 0 = omega arith in
+    simp (eq-eqb _ _ none)
 
-pub width_fewest : (besides k n : ℕ) → n < base ^ suc besides → IsDigitCount base 1 n k → k ≡ width besides n
+more_digits : (k n : ℕ) (list : List ℕ) → base ≤ n → digits_onto (suc k) base false n list ≡ digits_onto k base false (n / base) (hex_digit_ascii (n % base) ∷ list)
+more_digits k n list high =
+    let some : n / base ≡ 0 → ⊥ = λ e. omega arith in
+    simp (ne_eqb _ _ some)
+
+spelled_by : (b : Bool) (k n w : ℕ) (list : List ℕ) → ltb n base ≡ b →
+    (base ≤ n → digits_onto k base false (n / base) (hex_digit_ascii (n % base) ∷ list) ≡ last_digits base w (n / base) ++ hex_digit_ascii (n % base) ∷ list) →
+    digits_onto (suc k) base false n list ≡ last_digits base (cond b 1 (suc w)) n ++ list
+spelled_by true k n w list e rest = one_digit k n list (ltb-true _ _ e)
+spelled_by false k n w list e rest =
+    let high = ltb-false _ _ e in
+    more_digits k n list high ∙ rest high ∙ sym (append_assoc (last_digits base w (n / base)) (hex_digit_ascii (n % base) ∷ []) list)
+
+spelled_onto : (besides k n : ℕ) (list : List ℕ) → besides < k → n < base ^ suc besides →
+    digits_onto k base false n list ≡ last_digits base (width besides n) n ++ list
 unfolding width
-width_fewest besides zero n h f = absurd (omega (arith, f.0))
-width_fewest zero (suc zero) n h f = refl
-width_fewest zero (suc (suc j)) n h f =
-    let low : base ^ suc j ≤ n = subst (λ (i : ℕ). base ^ i ≤ n) (one_less (suc j)) (f.2 (omega arith)) in
-    absurd (omega (arith, pow-succ' base j, pow-succ' base 0, one-le-pow j base (omega arith)))
-width_fewest (suc besides) (suc zero) n h f =
-    let low : n < base = f.1 in
-    simp (lt-ltb n base low)
-width_fewest (suc besides) (suc (suc j)) n h f =
-    let low : base ^ suc j ≤ n = subst (λ (i : ℕ). base ^ i ≤ n) (one_less (suc j)) (f.2 (omega arith)) in
-    let more : base ≤ n = omega (arith, pow-succ' base j, one-le-pow j base (omega arith)) in
-    rw (le-ltb n base more) (ap suc (width_fewest besides (suc j) (n / base) (omega (arith, pow-succ' base (suc besides)))
-    (omega arith, omega (arith, f.1, pow-succ' base (suc j)), (λ _. rw (one_less j) (omega (arith, pow-succ' base j))))))
+spelled_onto besides zero n list h low = absurd (omega arith)
+spelled_onto zero (suc k) n list h low = one_digit k n list (omega arith)
+spelled_onto (suc besides) (suc k) n list h low =
+    spelled_by (ltb n base) k n (width besides (n / base)) list refl
+    (λ high. spelled_onto besides k (n / base) (hex_digit_ascii (n % base) ∷ list) (omega arith) (omega (arith, pow-succ' base (suc besides))))
+
+pub spelled : (n : ℕ) → n < 2 ^ 32 → decimal n ≡ number n
+unfolding digits
+spelled n h = spelled_onto further_digits 64 n [] (omega arith) (omega arith) ∙ append-nil _
 
 either_most : (b : Bool) (k m : ℕ) → k ≤ m → cond b 1 (suc k) ≤ suc m
 either_most true k m h = omega arith
 either_most false k m h = omega arith
 
-pub width_most : (besides n : ℕ) → width besides n ≤ suc besides
+width_most : (besides n : ℕ) → width besides n ≤ suc besides
 unfolding width
 width_most zero n = omega arith
 width_most (suc besides) n = either_most (ltb n base) (width besides (n / base)) (suc besides) (width_most besides (n / base))
+
+length-last_digits : (k n : ℕ) → length (last_digits base k n) ≡ k
+length-last_digits zero n = refl
+length-last_digits (suc k) n =
+    let e = length-last_digits k (n / base) in
+    simp (length-append, e) (omega arith)
+
+pub number_most : (n : ℕ) → length (number n) ≤ suc further_digits
+number_most n = rw (length-last_digits (width further_digits n) n) (width_most further_digits n)

@@ -1,5 +1,4 @@
-pub mod Copied
 pub mod Decimal
-pub mod Listed
+pub mod Lines
 pub mod Written
 pub mod Sample

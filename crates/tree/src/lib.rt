@@ -4,11 +4,10 @@
 ghost use Rattle.std.specs.Prelude.{◌≡◌};
 ghost use Rattle.tree.specs.Conclusion.{place_in, complete, concluded, kept_tree};
 ghost use Rattle.grammar.specs.Idl.{idl};
-ghost use Rattle.readers_core.specs.Reading.{view};
 ghost use Rattle.meaning.specs.Calls.{TreeAnswered};
 
-use limits::{Bounded, Limits};
-use readers_core::{Reading, has_stopped, is_too_deep, place, records};
+use limits::Limits;
+use readers_core::{Reading, Tokens};
 use readers_specification::specification;
 use replies::Reply;
 use tables::{NODE_WIDTH, TOKEN_FIRST, TOKEN_WIDTH, clear};
@@ -23,21 +22,18 @@ fn place_of(list: &[u32], text: u32, i: u32) -> u32
 
 // Whether the whole list is read.
 fn is_complete(count: u32, state: Reading) -> bool
-    ensures { result ≡ complete count (view state) }
+    ensures { result ≡ complete count state }
 {
-    if has_stopped(state) {
-        return false;
-    }
-    place(state) == count
+    !state.has_stopped() && state.place() == count
 }
 
 // What the state in which reading has ended answers. A refusal clears the tree table.
 fn conclude(list: &[u32], count: u32, text: u32, tree: &mut [u32], state: Reading) -> Reply
-    ensures reply { result ≡ concluded list.now tree.old count text (view state) }
-    ensures table { tree.new ≡ kept_tree tree.old count (view state) }
+    ensures reply { result ≡ concluded list.now tree.old count text state }
+    ensures table { tree.new ≡ kept_tree tree.old count state }
 {
     if is_complete(count, state) {
-        let needed = records(state);
+        let needed = state.records();
         if (tree.len() / NODE_WIDTH) < (needed as usize) {
             clear(tree);
             return Reply::more_records(text, count, needed);
@@ -45,8 +41,8 @@ fn conclude(list: &[u32], count: u32, text: u32, tree: &mut [u32], state: Readin
         return Reply::accepted(text, count, needed);
     }
     clear(tree);
-    let first = place_of(list, text, place(state));
-    if is_too_deep(state) {
+    let first = place_of(list, text, state.place());
+    if state.is_too_deep() {
         return Reply::too_deep(first, count);
     }
     Reply::grammar(first, count)
@@ -56,8 +52,7 @@ fn conclude(list: &[u32], count: u32, text: u32, tree: &mut [u32], state: Readin
 pub fn read_tree(tokens: &[u32], count: usize, text: usize, tree: &mut [u32], depth: u32) -> Reply
     ensures { TreeAnswered idl tokens.now count text tree.old depth result tree.new }
 {
-    let limits = Limits::new(text, depth);
-    let Bounded::Good(_) = limits else {
+    let Some(_) = Limits::new(text, depth) else {
         return Reply::outside_limits();
     };
     if tokens.len() / TOKEN_WIDTH < count {
@@ -67,6 +62,6 @@ pub fn read_tree(tokens: &[u32], count: usize, text: usize, tree: &mut [u32], de
         return Reply::outside_limits();
     }
     let list = &tokens[..TOKEN_WIDTH * count];
-    let end = specification(list, tree, 0, depth);
+    let end = specification(&Tokens::new(list), tree, Reading::new(), depth);
     conclude(list, count as u32, text as u32, tree, end)
 }

@@ -24,7 +24,7 @@ returns c =
     rw (← c.at.view_is, ← c.start.view_is) (record {
       wraps = λ is ks d hs e.
           recorded_node is e (goes_on s going) low (counted_goes s low) (counted_at s low) (counted_count s low)
-          (λ le le'. c.put_node.ensures ∙ rw c.from.ensures (write_below c.args.tree.now c.args.rule low c.high-place.ensures
+          (λ le le'. c.put.ensures ∙ rw c.from.ensures (write_below c.args.tree.now c.args.rule low c.high-place.ensures
           (c.low.ensures ∙ started_at s low t le')
           (c.low-2.ensures ∙ sym (going_at s going))
           (c.high-size.ensures ∙ counted_since s low t le' le (omega arith) (omega (arith, le', c.if-counted-ge-STOP.false)))));

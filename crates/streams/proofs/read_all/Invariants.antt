@@ -1,6 +1,6 @@
--- Reading ends, since with each call either the room left or the interruptions left become fewer.
+-- Reading ends, since each turn of the loop reads a byte at least, and the room left becomes less.
 -- What was read so far stands at the front of the slice. Assumes nothing.
-use Rattle.std.proofs.Common.{◌≡◌, ◌+◌, ◌-◌, ◌≤◌, length, take}
+use Rattle.std.proofs.Common.{◌≡◌, ◌-◌, ◌≤◌, length, take}
 use Rattle.std.specs.Io.KnownBytes.{Consumes}
 use Rattle.streams.proofs.read_all.Given as goal
 
@@ -12,4 +12,4 @@ invariant-loop-size g l = record {
 }
 
 abbrev pub decreases-loop-size : goal.decreases-loop-size
-decreases-loop-size g l = length l.bytes - l.size + l.left
+decreases-loop-size g l = length l.bytes - l.size
