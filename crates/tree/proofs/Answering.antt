@@ -21,7 +21,7 @@ use Rattle.tables.specs.Tables.{number_end, capacity, token_width}
 use Rattle.tables.proofs.Laws.{capacity_fits}
 use Rattle.meaning.specs.Calls.{good_tree_call, TreeAnswered}
 use Rattle.readers_core.specs.Course.{Course}
-use Rattle.readers_core.specs.Reading.{view, Reads}
+use Rattle.readers_core.specs.Reading.{Reading, beginning, Reads}
 use Rattle.tree.specs.Conclusion.{concluded, kept_tree}
 use Rattle.tree.proofs.Judged.{judged}
 
@@ -64,9 +64,9 @@ module _ (tokens : List ℕ) (count text : ℕ) (tree : List ℕ) (setting : ℕ
         omega arith
 
     -- of any course in which readers write the numbers of the rules themselves
-    pub answered : (C : Course) → ((r : ℕ) → C.code r ≡ r) → {s : ℕ} {w : List ℕ} {reply : Reply} {tree' : List ℕ} →
-        length w ≡ length tree → Reads C (take (token_width * count) tokens) setting (call C.edition.start) (0, tree) (s, w) →
-        reply ≡ concluded (take (token_width * count) tokens) w count text (view s) → tree' ≡ kept_tree w count (view s) →
+    pub answered : (C : Course) → ((r : ℕ) → C.code r ≡ r) → {s : Reading} {w : List ℕ} {reply : Reply} {tree' : List ℕ} →
+        length w ≡ length tree → Reads C (take (token_width * count) tokens) setting (call C.edition.start) (beginning, tree) (s, w) →
+        reply ≡ concluded (take (token_width * count) tokens) w count text s → tree' ≡ kept_tree w count s →
         TreeAnswered C.edition tokens count text tree setting reply tree'
     answered C plain {s} {w} same reads e f = record {
       outside = λ u. absurd (true≢false (sym (rw (good, le-leb count (capacity token_width tokens) few, le-leb count text inside)) ∙ u));

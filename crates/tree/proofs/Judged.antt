@@ -28,7 +28,7 @@ use Rattle.meaning.specs.Answer.{tree_reply, tree_after}
 use Rattle.meaning.specs.Calls.{first_records}
 use Rattle.meaning.proofs.Outcomes.{of_outcome, outcome_verdict}
 use Rattle.readers_core.specs.Course.{Course, coded, noted, table_in}
-use Rattle.readers_core.specs.Reading.{Reading, view, ceiling, write, writes, nothing, Held, Ends, ends_done, ends_blame}
+use Rattle.readers_core.specs.Reading.{Reading, beginning, ceiling, write, writes, nothing, Held, Ends, ends_done, ends_blame}
 use Rattle.readers_core.specs.Reading.{ends_deep, sunk, Reads}
 use Rattle.readers_core.proofs.Holding.{held_none}
 use Rattle.readers_core.proofs.Sharing.{at_home}
@@ -56,10 +56,6 @@ noted_plain C e i f = coded_plain C.code e (records C.edition i f)
 
 zeroed_same : (w w' : List ℕ) → length w' ≡ length w → zeroed w' ≡ zeroed w
 zeroed_same w w' e = rw e
-
--- a reader's state before anything is read
-abbrev beginning : Reading
-beginning = view 0
 
 -- in any course in which readers write the numbers of the rules themselves
 module _ (C : Course) (plain : (r : ℕ) → C.code r ≡ r) (tokens : List ℕ) (count text depth : ℕ)
@@ -184,12 +180,12 @@ module _ (C : Course) (plain : (r : ℕ) → C.code r ≡ r) (tokens : List ℕ)
     outcome_right (says_deep {q} l v t) (ends_deep a p) = deep_right q (stopped_here (λ e. omega arith)) (eq-eqb s.answer sunk a) p
 
   -- so whatever the list means, the reading concluded is its verdict
-  pub judged : (w w' : List ℕ) → length w' ≡ length w → (s : ℕ) → Reads C list depth (call E.start) (0, w) (s, w') →
-      (sense : Sense) → Means E kinds sense → Right w w' (view s) (verdict depth (capacity node_width w) kinds sense)
+  pub judged : (w w' : List ℕ) → length w' ≡ length w → (s : Reading) → Reads C list depth (call E.start) (beginning, w) (s, w') →
+      (sense : Sense) → Means E kinds sense → Right w w' s (verdict depth (capacity node_width w) kinds sense)
   unfolding shape elem
   judged w w' same s r sense m =
-      let ran = (at_home (r.in_any 0 nothing) (beginning, w) refl refl).runs refl end tt in
+      let ran = (at_home (r.in_any beginning nothing) (beginning, w) refl refl).runs refl end tt in
       let run = subst (λ (k : ℕ → ℕ). Runs (table_in C) k depth (call E.start) 0 end ran.outcome) (fun_ext (kinds_listed count tokens fits)) ran.run in
       let e = outcome_verdict C.checked depth (capacity node_width w) kinds (says C.checked depth kinds ran.outcome run) m in
-      subst (λ (v : Verdict). Right w w' (view s) v) e
-      (outcome_right w w' same (view s) (says C.checked depth kinds ran.outcome run) ran.ends)
+      subst (λ (v : Verdict). Right w w' s v) e
+      (outcome_right w w' same s (says C.checked depth kinds ran.outcome run) ran.ends)

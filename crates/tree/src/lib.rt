@@ -62,6 +62,8 @@ pub fn read_tree(tokens: &[u32], count: usize, text: usize, tree: &mut [u32], de
         return Reply::outside_limits();
     }
     let list = &tokens[..TOKEN_WIDTH * count];
-    let end = specification(&Tokens::new(list), tree, Reading::new(), depth);
+    let listed = Tokens::new(list);
+    let start = Reading::new();
+    let end = specification(&listed, tree, start, depth);
     conclude(list, count as u32, text as u32, tree, end)
 }

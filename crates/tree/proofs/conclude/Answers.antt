@@ -1,6 +1,5 @@
 -- `conclude` meets its contract: each way out is a case of the definition.
 -- What was tested decides the case. Assumes nothing.
-use Rattle.readers_core.specs.Reading.{view}
 use Rattle.tables.specs.Tables.{capacity, node_width}
 use Rattle.tree.specs.Conclusion.{concluded, kept_tree}
 use borrow.Author.Tests.{le-ltb, lt-ltb}
@@ -16,7 +15,7 @@ returns-then-tree-needed c =
     let whole = sym c.is_complete.ensures ∙ c.if-is_complete.true in
     let needed = c.records-needed.ensures in
     let args = c.args in
-    let full : ltb (capacity node_width args.tree.now) (view args.state).count ≡ true =
+    let full : ltb (capacity node_width args.tree.now) args.state.count ≡ true =
     lt-ltb _ _ (subst (λ (n : ℕ). capacity node_width args.tree.now < n) needed c.if-tree-needed.true) in
     record { reply = c.more_records.ensures ∙ simp (whole, needed, full); table = c.clear.ensures ∙ simp (whole, full) }
 
@@ -26,7 +25,7 @@ returns-then-is_complete c =
     let whole = sym c.is_complete.ensures ∙ c.if-is_complete.true in
     let needed = c.records-needed.ensures in
     let args = c.args in
-    let room : ltb (capacity node_width args.tree.now) (view args.state).count ≡ false =
+    let room : ltb (capacity node_width args.tree.now) args.state.count ≡ false =
     le-ltb _ _ (subst (λ (n : ℕ). n ≤ capacity node_width args.tree.now) needed c.if-tree-needed.false) in
     record { reply = c.accepted.ensures ∙ simp (whole, needed, room); table = simp (whole, room) }
 

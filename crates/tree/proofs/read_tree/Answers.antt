@@ -26,8 +26,8 @@ returns-then-text-count c =
 pub slice_bounds-list-end : goal.slice_bounds-list-end
 slice_bounds-list-end c = sym (length-take-le _ _ (omega arith))
 
-pub specification-end-requires : goal.specification-end-requires
-specification-end-requires c =
+pub new-listed-requires : goal.new-listed-requires
+new-listed-requires c =
     list_short c.args.tokens.now c.args.count c.args.text c.args.tree.now c.args.depth c.in-Some.ensures c.if-tokens-count.false (omega arith)
 
 pub overflow_cast-count : goal.overflow_cast-count
@@ -47,6 +47,7 @@ overflow_cast-text c =
 pub returns : goal.returns
 unfolding idl
 returns c =
+    let read = rw (c.new-listed.ensures, c.new-start.ensures) at c.specification-end.ensures in
     answered c.args.tokens.now c.args.count c.args.text c.args.tree.now c.args.depth c.in-Some.ensures
-    c.if-tokens-count.false (omega arith) one (λ r. refl) c.specification-end.auto.tree c.specification-end.ensures
+    c.if-tokens-count.false (omega arith) one (λ r. refl) c.specification-end.auto.tree read
     c.conclude.ensures.reply c.conclude.ensures.table
