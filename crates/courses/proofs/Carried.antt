@@ -21,7 +21,7 @@ use Rattle.components.specs.Components.{components}
 use Rattle.data_only.specs.DataOnly.{data_only}
 use Rattle.readers_core.specs.Notation.{<◌>}
 use Rattle.readers_core.specs.Course.{Course, Shares, one}
-use Rattle.readers_core.specs.Reading.{State, From, Flat}
+use Rattle.readers_core.specs.Reading.{Reading, State, From, Flat}
 use Rattle.readers_core.proofs.Sharing.{carried}
 use Rattle.courses.specs.Courses.{two, three, code_3}
 use Rattle.courses.specs.Shared.{shared_2, number_3, shared_3}
@@ -80,7 +80,7 @@ three_shares : Shares one three
 unfolding shares
 three_shares = shares one three number_3 shared_3 agree_3 kept_in_three
 
-module _ {ks : List ℕ} {d start : ℕ} {hs : List ℕ} (p : Plan) {s s' : State} where
+module _ {ks : List ℕ} {d : ℕ} {start : Reading} {hs : List ℕ} (p : Plan) {s s' : State} where
   -- edition 2, by the same numbers
   pub in_two : T (inside shared_2 p) → From one ks d start hs p s s' → From two ks d start hs p s s'
   unfolding two_shares shares
