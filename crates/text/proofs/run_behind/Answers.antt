@@ -11,12 +11,13 @@ returns-then-end g c =
     let i = c.loop-passed.passed in
     let many = c.as_chunks.ensures in
     let found = c.end_in_window-end.ensures in
-    let is = rw many.front at c.index-windows-passed.is ∙ part_at n (length text / n) text i _ (omega (arith, c.loop-passed-test.true, many.front_len)) in
+    let at = part_at n (length text / n) text i _ (omega (arith, c.loop-passed-test.true, many.front_len)) in
     omega (
       arith,
       found,
       c.if-end.true,
-      passed_stop g.C.Class.member n (length text / n) text i c.loop-passed.invariant is (omega (arith, found, c.if-end.true)),
+      passed_stop g.C.Class.member n (length text / n) text i c.loop-passed.invariant (rw many.front at c.index-windows-passed.is ∙ at)
+          (omega (arith, found, c.if-end.true)),
     )
 
 pub loop-passed-preserved : goal.loop-passed-preserved
@@ -25,8 +26,9 @@ loop-passed-preserved g c =
     let n = g.row.N in
     let i = c.loop-passed.passed in
     let many = c.as_chunks.ensures in
-    let is = rw many.front at c.index-windows-passed.is ∙ part_at n (length text / n) text i _ (omega (arith, c.loop-passed-test.true, many.front_len)) in
-    passed_more g.C.Class.member n (length text / n) text i c.loop-passed.invariant is (omega (arith, c.end_in_window-end.ensures, c.if-end.false))
+    let at = part_at n (length text / n) text i _ (omega (arith, c.loop-passed-test.true, many.front_len)) in
+    passed_more g.C.Class.member n (length text / n) text i c.loop-passed.invariant (rw many.front at c.index-windows-passed.is ∙ at)
+    (omega (arith, c.end_in_window-end.ensures, c.if-end.false))
 
 pub overflow_add-result-2 : goal.overflow_add-result-2
 overflow_add-result-2 g c =
