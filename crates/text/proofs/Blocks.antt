@@ -86,10 +86,12 @@ pub part_at : (n k : ℕ) (bs : List ℕ) (i : ℕ) (none : List ℕ) → i < k 
 part_at n zero bs i none h = absurd (omega arith)
 part_at n (suc k) bs zero none h = ap (λ (m : ℕ). take n (drop m bs)) (sym (zero-mul n))
 part_at n (suc k) bs (suc i) none h =
-    part_at n k (drop n bs) i none (omega arith) ∙ ap (take n) (drop-drop (i * n) n bs ∙ ap (λ (m : ℕ). drop m bs) (omega (arith, suc-mul i n)))
+    let place : n + i * n ≡ suc i * n = omega (arith, suc-mul i n) in
+    part_at n k (drop n bs) i none (omega arith) ∙ ap (take n) (drop-drop (i * n) n bs ∙ ap (λ (m : ℕ). drop m bs) place)
 
 -- the run behind all parts ends in the text
-pub parts_fit : (class : ℕ → Bool) (n k r : ℕ) (bs last : List ℕ) → k ≡ length bs / n → last ≡ drop (length bs / n * n) bs → r ≡ run class last →
+pub parts_fit : (class : ℕ → Bool) (n k r : ℕ) (bs last : List ℕ) →
+    k ≡ length bs / n → last ≡ drop (length bs / n * n) bs → r ≡ run class last →
     k * n + r ≤ length bs
 parts_fit class n k r bs last many behind counted =
     omega (
