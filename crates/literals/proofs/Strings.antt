@@ -1,7 +1,7 @@
 -- A string from place to place: a piece at a time, and past a run of bytes that it holds as they are.
 -- A piece is a byte at least and there are more steps than bytes, so how many more does not matter. Assumes nothing.
 use mathlib.Core.Path.{◌≡◌, refl, sym, ap, ◌∙◌}
-use mathlib.Core.Bool.{Bool, true, false, cond}
+use mathlib.Core.Bool.{Bool, true}
 use mathlib.Core.List.{List, [], ◌∷◌}
 use Prim.Native.Char.{code}
 use Prim.Native.Nat.{ℕ, zero, suc, ◌+◌, ◌≤◌, ◌<◌}
@@ -62,13 +62,8 @@ module _ (wide : Bool) (bs : List ℕ) where
 run_at : (class : ℕ → Bool) (bs : List ℕ) (k : ℕ) → k < run class bs → class (at bs k) ≡ true
 unfolding run
 run_at class [] k h = absurd (omega arith)
-run_at class (b ∷ bs) k h = go (class b) refl (run_at class bs) k h
-  where
-    go : (t : Bool) → class b ≡ t → ((j : ℕ) → j < run class bs → class (at bs j) ≡ true) → (k : ℕ) →
-        k < cond t (suc (run class bs)) 0 → class (at (b ∷ bs) k) ≡ true
-    go true e on zero l = e
-    go true e on (suc j) l = on j (omega arith)
-    go false e on j l = absurd (omega arith)
+run_at class (b ∷ bs) zero h = grind arith
+run_at class (b ∷ bs) (suc k) h = let later = run_at class bs k in grind arith
 
 module _ (wide : Bool) (bs : List ℕ) where
   past_ordinary : (n : ℕ) → n ≤ length bs → ordinary (at bs n) ≡ true → string wide n bs ≡ string wide (n + 1) bs
