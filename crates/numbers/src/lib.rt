@@ -87,7 +87,7 @@ fn exponent(bs: &[u8]) -> usize
 fn followed(bs: &[u8], kind: u32, size: usize) -> Result<Lexeme, Fault>
     ensures { result ≡ numbers.followed bs.now kind size }
 {
-    if bs.get(size).is_some_and(|next| Wordly::has(*next)) {
+    if byte_at(bs, size).is_some_and(Wordly::has) {
         return Err(Fault::BadLiteral);
     }
     Ok(Lexeme::Token(kind, size))
