@@ -1,51 +1,36 @@
--- The search of */ as a loop passes the bytes one by one.
+-- The search of */ as a loop passes the bytes one by one, and the bytes to the next star at once.
 -- A byte that begins no */ is one byte more to the next; a text of one byte holds none. Assumes nothing.
 use mathlib.Core.Path.{◌≡◌, refl, ap, sym, ◌∙◌}
-use mathlib.Core.Bool.{Bool, true, false, ◌&&◌, cond}
+use mathlib.Core.Bool.{Bool, true, false, cond}
 use mathlib.Core.List.{List, [], ◌∷◌}
 use Prim.Native.Char.{code}
-use Prim.Native.Nat.{ℕ, zero, suc, ◌+◌, ◌≤◌, ◌<◌}
-use native.Mathlib.Numerals.{add-one}
+use Prim.Native.Nat.{ℕ, suc, ◌+◌, ◌-◌, ◌≤◌}
 use native.Mathlib.Omega.{arith}
 use lib.Dec.{eqb}
-use lib.ListN.{length, get_or, drop, length-drop}
-use lib.Seq.{drop-cons, drop-drop, get_or-drop}
-use Rattle.text.specs.Bytes.{end, at, run}
-use Rattle.text.specs.Blanks.{further, to_close}
-use Rattle.text.proofs.Rests.{Counted}
-use Rattle.text.proofs.Runs.{at_inside}
+use lib.ListN.{length, drop, length-drop}
+use Rattle.std.specs.Prelude.{Option, Some, None}
+use Rattle.std.specs.Option.{option_map}
+use Rattle.text.specs.Bytes.{run}
+use Rattle.text.specs.Blanks.{to_close}
 use Rattle.text.specs.Classes.{starless}
+use Rattle.text.proofs.Runs.{run_within}
+use Rattle.blanks.specs.Ends.{closes}
 
 -- n bytes more, where there are any
-abbrev pub beyond : ℕ → ℕ → ℕ
-beyond n zero = 0
-beyond n (suc k) = n + suc k
+abbrev pub beyond : ℕ → Option ℕ → Option ℕ
+beyond n found = option_map (λ (k : ℕ). n + k) found
 
-beyond_none : (k : ℕ) → k ≡ beyond 0 k
-beyond_none zero = refl
-beyond_none (suc k) = omega arith
+beyond_none : (found : Option ℕ) → found ≡ beyond 0 found
+beyond_none None = refl
+beyond_none (Some k) = ap Some (omega arith)
 
-beyond_further : (n k : ℕ) → beyond n (further k) ≡ beyond (n + 1) k
-unfolding further
-beyond_further n zero = refl
-beyond_further n (suc k) = omega arith
+beyond_one : (n : ℕ) (found : Option ℕ) → option_map suc (beyond n found) ≡ beyond (suc n) found
+beyond_one n None = refl
+beyond_one n (Some k) = ap Some (omega arith)
 
-beyond_some : (n m : ℕ) → 0 < m → beyond n m ≡ n + m
-beyond_some n zero h = absurd (omega arith)
-beyond_some n (suc m) h = refl
-
-beyond_beyond : (n m k : ℕ) → beyond n (beyond m k) ≡ beyond (n + m) k
-beyond_beyond n m zero = refl
-beyond_beyond n m (suc k) = beyond_some n (m + suc k) (omega arith) ∙ omega arith
-
-further_beyond : (n k : ℕ) → further (beyond n k) ≡ beyond (suc n) k
-unfolding further
-further_beyond n zero = refl
-further_beyond n (suc k) = some (n + suc k) (omega arith) ∙ omega arith
-  where
-    some : (m : ℕ) → 0 < m → further m ≡ suc m
-    some zero h = absurd (omega arith)
-    some (suc m) h = refl
+beyond_beyond : (n m : ℕ) (found : Option ℕ) → beyond n (beyond m found) ≡ beyond (n + m) found
+beyond_beyond n m None = refl
+beyond_beyond n m (Some k) = ap Some (omega arith)
 
 -- bytes that are no stars begin no */
 abbrev Starless : List ℕ → Type 0
@@ -57,7 +42,8 @@ star_first b bs e = rw e
 
 starless_first : (b : ℕ) (bs : List ℕ) → eqb b (code "*") ≡ false → Starless bs → Starless (b ∷ bs)
 unfolding run starless to_close
-starless_first b bs e next = rw e (ap further next ∙ further_beyond (run starless bs) (to_close (drop (run starless bs) bs)))
+starless_first b bs e next =
+    rw e (ap (option_map suc) next ∙ beyond_one (run starless bs) (to_close (drop (run starless bs) bs)))
 
 starless_step : (b : ℕ) (bs : List ℕ) → Starless bs → Starless (b ∷ bs)
 starless_step b bs next = go (eqb b (code "*")) refl
@@ -71,61 +57,47 @@ unfolding run
 starless_run [] = beyond_none (to_close [])
 starless_run (b ∷ bs) = starless_step b bs (starless_run bs)
 
--- a byte and the byte after it are */
-abbrev pub closes : ℕ → ℕ → Bool
-closes b next = eqb b (code "*") && eqb next (code "/")
+-- no */ begins before the rest
+pub record Passed (bs rest : List ℕ) : Type 0 where
+  pub within : length rest ≤ length bs
+  pub so_far : to_close bs ≡ beyond (length bs - length rest) (to_close rest)
 
-never : (t : Bool) (n : ℕ) → cond (t && false) n 0 ≡ 0
-never true n = refl
-never false n = refl
+pub passed_none : (bs : List ℕ) → Passed bs bs
+passed_none bs = record {
+  within = omega arith;
+  so_far = beyond_none (to_close bs) ∙ ap (λ (n : ℕ). beyond n (to_close bs)) (omega arith);
+}
 
--- one byte is too few
-pub one_byte : (bs : List ℕ) → length bs ≤ 1 → to_close bs ≡ 0
-unfolding to_close further
-one_byte [] h = refl
-one_byte (b ∷ []) h = never (eqb b (code "*")) 2
-one_byte (b ∷ c ∷ bs) h = absurd (omega arith)
-
--- no */ begins in the first n bytes
-pub record Passed (bs : List ℕ) (n : ℕ) : Type 0 where
-  pub within : n ≤ length bs
-  pub so_far : to_close bs ≡ beyond n (to_close (drop n bs))
-
-module _ (bs : List ℕ) where
-  pub passed_none : Passed bs 0
-  passed_none = record { within = omega arith; so_far = beyond_none (to_close bs) }
-
-  -- the two bytes at place n
-  front : (n : ℕ) → n + 1 < length bs →
-      to_close (drop n bs) ≡ cond (closes (get_or bs n 0) (get_or bs (n + 1) 0)) 2 (further (to_close (drop (n + 1) bs)))
+module _ (bs rest : List ℕ) (p : Passed bs rest) where
+  pub passed_all : length rest ≡ 0 → None ≡ to_close bs
   unfolding to_close
-  front n h =
-      let next : at (drop (suc n) bs) 0 ≡ get_or bs (n + 1) 0 =
-      get_or-drop (suc n) bs 0 end ∙ ap (at bs) (omega arith) ∙ sym (at_inside bs (n + 1) h) in
-      ap to_close (drop-cons bs n 0 (omega arith)) ∙ rw (next, add-one n)
+  passed_all e = sym (p.so_far ∙ ap (beyond (length bs - length rest)) (none rest e))
+    where
+      none : (l : List ℕ) → length l ≡ 0 → to_close l ≡ None
+      none [] e = refl
+      none (b ∷ l) e = absurd (omega arith)
 
-  module _ (n : ℕ) (h : n + 1 < length bs) (p : Passed bs n) where
-    ahead : {closed : Bool} → closes (get_or bs n 0) (get_or bs (n + 1) 0) ≡ closed →
-        to_close bs ≡ beyond n (cond closed 2 (further (to_close (drop (n + 1) bs))))
-    ahead e = rw (p.so_far, front n h, e)
+  module _ (b : ℕ) (behind : List ℕ) (front : rest ≡ b ∷ behind) where
+    ahead : {x : Bool} → closes rest ≡ x → to_close rest ≡ cond x (Some 2) (option_map suc (to_close behind))
+    unfolding to_close
+    ahead e =
+        let here : closes (b ∷ behind) ≡ closes rest = ap closes (sym front) in
+        ap to_close front ∙ ap (λ (x : Bool). cond x (Some 2) (option_map suc (to_close behind))) (here ∙ e)
 
-    pub passed_more : closes (get_or bs n 0) (get_or bs (n + 1) 0) ≡ false → Passed bs (n + 1)
-    passed_more e = record { within = omega arith; so_far = ahead e ∙ beyond_further n (to_close (drop (n + 1) bs)) }
+    pub passed_closed : closes rest ≡ true → Some (length bs - length rest + 2) ≡ to_close bs
+    passed_closed e = sym (p.so_far ∙ ap (beyond (length bs - length rest)) (ahead e))
 
-    pub passed_closed : closes (get_or bs n 0) (get_or bs (n + 1) 0) ≡ true → n + 2 ≡ to_close bs
-    passed_closed e = sym (ahead e)
-
-  -- and so are the bytes before the next star
-  pub passed_run : {n size : ℕ} → Passed bs n → Counted starless bs n size → Passed bs (n + size)
-  passed_run {n} {size} p w =
-      let rest = drop n bs in
-      let run_on : to_close rest ≡ beyond size (to_close (drop size rest)) = rw w.is_run (starless_run rest) in
-      record {
-        within = w.fits;
-        so_far =
-            p.so_far ∙ ap (beyond n) run_on ∙ beyond_beyond n size (to_close (drop size rest))
-            ∙ ap (λ (l : List ℕ). beyond (n + size) (to_close l)) (drop-drop size n bs);
-      }
-
-  pub passed_all : {n : ℕ} → length bs ≤ n + 1 → Passed bs n → 0 ≡ to_close bs
-  passed_all {n} h p = sym (p.so_far ∙ ap (beyond n) (one_byte (drop n bs) (simp length-drop (omega arith))))
+    -- the bytes before the next star are passed at once
+    pub passed_more : closes rest ≡ false → Passed bs (drop (run starless behind) behind)
+    passed_more e =
+        let n = run starless behind in
+        let left = drop n behind in
+        let in_rest = ahead e ∙ ap (option_map suc) (starless_run behind) ∙ beyond_one n (to_close left) in
+        let gone = length-drop n behind in
+        let here : length rest ≡ suc (length behind) = ap length front in
+        let inside = run_within starless behind in
+        record {
+          within = omega (arith, p.within, gone, here);
+          so_far = p.so_far ∙ ap (beyond (length bs - length rest)) in_rest ∙ beyond_beyond (length bs - length rest) (suc n) (to_close left)
+              ∙ ap (λ (m : ℕ). beyond m (to_close left)) (omega (arith, p.within, gone, here, inside));
+        }

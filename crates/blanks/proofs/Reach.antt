@@ -1,33 +1,41 @@
 -- How far a comment reaches: past its first byte, and not past the end of the text.
 -- A run and the search of */ stay in the rest after the first two bytes. Assumes nothing.
-use mathlib.Core.Bool.{Bool, true, false, cond}
+use mathlib.Core.Bool.{Bool, true, false, ◌&&◌, cond}
 use mathlib.Core.List.{List, [], ◌∷◌}
-use Prim.Native.Nat.{ℕ, zero, suc, ◌+◌, ◌≤◌}
+use Prim.Native.Char.{code}
+use lib.Dec.{eqb}
+use Rattle.std.specs.Prelude.{Option, Some, None, IfSome}
+use Rattle.std.specs.Option.{option_map}
+use Prim.Native.Nat.{ℕ, suc, ◌+◌, ◌≤◌}
 use native.Mathlib.Omega.{arith}
 use lib.ListN.{length, drop, length-drop}
 use Rattle.text.specs.Bytes.{in_line}
-use Rattle.text.specs.Blanks.{line_comment, block_comment, closed, further, to_close}
+use Rattle.text.specs.Blanks.{line_comment, block_comment, closed, to_close}
 use Rattle.text.proofs.Runs.{run_within}
 use Rattle.text.proofs.Sizes.{Sized}
-use Rattle.blanks.proofs.Closing.{closes, one_byte}
+use Rattle.blanks.specs.Ends.{closes}
 
--- one byte more to the next */ is one byte more of text
-close_step : (found : Bool) (n : ℕ) {m : ℕ} → n ≤ suc m → cond found 2 (further n) ≤ suc (suc m)
-unfolding further
-close_step true n h = omega arith
-close_step false zero h = omega arith
-close_step false (suc n) h = omega arith
-
-pub close_within : (bs : List ℕ) → to_close bs ≤ length bs
+-- the end of the next */ lies in the text
+pub close_within : (bs : List ℕ) → IfSome (to_close bs) (λ n. n ≤ length bs)
 unfolding to_close
-close_within [] = omega arith
-close_within (b ∷ []) = let none = one_byte (b ∷ []) (omega arith) in omega arith
-close_within (b ∷ c ∷ bs) = close_step (closes b c) (to_close (c ∷ bs)) (close_within (c ∷ bs))
+close_within [] = tt
+close_within (b ∷ []) = step (eqb b (code "*"))
+  where
+    step : (x : Bool) → IfSome (cond (x && false) (Some 2) None) (λ n. n ≤ 1)
+    step true = tt
+    step false = tt
+close_within (b ∷ c ∷ bs) = step (closes (b ∷ c ∷ bs)) (to_close (c ∷ bs)) (close_within (c ∷ bs))
+  where
+    step : (x : Bool) (found : Option ℕ) → IfSome found (λ n. n ≤ suc (length bs)) →
+        IfSome (cond x (Some 2) (option_map suc found)) (λ n. n ≤ suc (suc (length bs)))
+    step true found h = omega arith
+    step false None h = tt
+    step false (Some n) h = omega arith
 
-closed_sized : (n : ℕ) {most : ℕ} → 2 + n ≤ most → Sized most (closed n)
+closed_sized : (found : Option ℕ) (most : ℕ) → IfSome found (λ n. 2 + n ≤ most) → Sized most (closed found)
 unfolding closed
-closed_sized zero h = tt
-closed_sized (suc n) h = omega arith
+closed_sized None most h = tt
+closed_sized (Some n) most h = (omega arith, h)
 
 module _ (bs : List ℕ) (two : 2 ≤ length bs) where
   pub line_comment_sized : Sized (length bs) (line_comment bs)
@@ -36,4 +44,8 @@ module _ (bs : List ℕ) (two : 2 ≤ length bs) where
 
   pub block_comment_sized : Sized (length bs) (block_comment bs)
   unfolding block_comment
-  block_comment_sized = closed_sized (to_close (drop 2 bs)) (omega (arith, close_within (drop 2 bs), length-drop 2 bs))
+  block_comment_sized = closed_sized (to_close (drop 2 bs)) (length bs) (go (to_close (drop 2 bs)) (close_within (drop 2 bs)))
+    where
+      go : (found : Option ℕ) → IfSome found (λ n. n ≤ length (drop 2 bs)) → IfSome found (λ n. 2 + n ≤ length bs)
+      go None h = tt
+      go (Some n) h = omega (arith, length-drop 2 bs)

@@ -2,6 +2,7 @@
 #![tactic(auto)]
 
 ghost use Rattle.std.specs.Prelude.{◌≡◌, ◌≤◌, length};
+ghost use Rattle.blanks.specs.Ends.{closes};
 ghost use Rattle.text.specs.Blanks.{line_comment, block_comment, to_close};
 
 use text::{Fault, Lexeme};
@@ -14,22 +15,25 @@ pub fn line_comment(bs: &[u8]) -> Result<Lexeme, Fault>
     Ok(Lexeme::Blank(2 + text::line_run(&bs[2..])))
 }
 
-// How many bytes there are to the end of the next */; 0 where there is none. From a star that closes nothing it goes on to
-// the next one.
-fn to_close(bs: &[u8]) -> usize
+// Whether the text goes on with */.
+fn closes(bs: &[u8]) -> bool
+    ensures { result ≡ closes bs.now }
+{
+    matches!(bs, [b'*', b'/', ..])
+}
+
+// How many bytes there are to the end of the next */, if there is one. From a byte that begins none it goes on to the next star.
+fn to_close(bs: &[u8]) -> Option<usize>
     ensures { result ≡ to_close bs.now }
 {
-    let mut passed = 0;
-    while passed + 1 < bs.len() {
-        if bs[passed] == b'*' {
-            if bs[passed + 1] == b'/' {
-                return passed + 2;
-            }
+    let mut rest = bs;
+    while let Some((_, behind)) = rest.split_first() {
+        if closes(rest) {
+            return Some(bs.len() - rest.len() + 2);
         }
-        passed += 1;
-        passed += text::starless_run(&bs[passed..]);
+        rest = &behind[text::starless_run(behind)..];
     }
-    0
+    None
 }
 
 // From /* to the next */, or open at the end of the text.
@@ -37,10 +41,6 @@ pub fn block_comment(bs: &[u8]) -> Result<Lexeme, Fault>
     requires { 2 ≤ length bs.now }
     ensures { result ≡ block_comment bs.now }
 {
-    let size = to_close(&bs[2..]);
-    if size == 0 {
-        Err(Fault::Open)
-    } else {
-        Ok(Lexeme::Blank(2 + size))
-    }
+    let size = to_close(&bs[2..]).ok_or(Fault::Open)?;
+    Ok(Lexeme::Blank(2 + size))
 }

@@ -1,6 +1,7 @@
 -- Comments: paper 01, "From bytes to tokens", second sentence. They may hold any byte.
 -- Assumes nothing: these are definitions.
-use Rattle.std.specs.Prelude.{◌&&◌, cond, List, [], ◌∷◌, ℕ, zero, suc, ◌+◌, eqb, drop, Result, Ok, Err}
+use Rattle.std.specs.Prelude.{◌&&◌, cond, List, [], ◌∷◌, ℕ, suc, ◌+◌, eqb, drop, Option, Some, None, Result, Ok, Err}
+use Rattle.std.specs.Option.{option_map}
 use Prim.Native.Char.{code}
 use Rattle.text.specs.Bytes.{at, run, in_line}
 use Rattle.text.specs.declared.Lexeme.{Lexeme}
@@ -13,21 +14,15 @@ unfoldable pub line_comment : List ℕ → Result Lexeme Fault
 unfolding in_line run
 line_comment bs = Ok (Blank (2 + run in_line (drop 2 bs)))
 
--- one more, where there is any
-unfoldable pub further : ℕ → ℕ
-further zero = 0
-further (suc n) = suc (suc n)
+-- how many bytes there are to the end of the next */, if there is one
+unfoldable pub to_close : List ℕ → Option ℕ
+to_close [] = None
+to_close (b ∷ bs) = cond (eqb b (code "*") && eqb (at bs 0) (code "/")) (Some 2) (option_map suc (to_close bs))
 
--- how many bytes there are to the end of the next */; 0 where there is none
-unfoldable pub to_close : List ℕ → ℕ
-unfolding further
-to_close [] = 0
-to_close (b ∷ bs) = cond (eqb b (code "*") && eqb (at bs 0) (code "/")) 2 (further (to_close bs))
-
--- a comment of n bytes after its /*, which is open where n is 0
-unfoldable pub closed : ℕ → Result Lexeme Fault
-closed zero = Err Open
-closed (suc n) = Ok (Blank (2 + suc n))
+-- a comment of n bytes after its /*, which is open where no */ follows
+unfoldable pub closed : Option ℕ → Result Lexeme Fault
+closed None = Err Open
+closed (Some n) = Ok (Blank (2 + n))
 
 -- from /* to the next */ (no nesting; "/*/" is still open)
 unfoldable pub block_comment : List ℕ → Result Lexeme Fault

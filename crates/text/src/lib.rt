@@ -1,7 +1,7 @@
 // The bytes of a text: what a lexeme is, one byte at a place, and the bytes of one class in a row.
 #![tactic(auto)]
 
-ghost use Rattle.std.specs.Prelude.{ℕ, Bool, leb, length, drop, ◌≡◌, ◌+◌, ◌≤◌, ◌<◌, min};
+ghost use Rattle.std.specs.Prelude.{ℕ, Bool, leb, ◌≡◌, ◌^◌, ◌<◌, min};
 ghost use Rattle.std.specs.Option.{unwrap_or};
 ghost use Rattle.text.specs.Bytes.{at, end, run, space, letter, digit, octal, hexadecimal, wordly, in_line};
 ghost use Rattle.text.specs.Classes.{starless, ordinary, block};
@@ -175,127 +175,103 @@ pub fn byte_at(text: &[u8], place: usize) -> Option<u8>
 pub fn run_of<C: Class>(text: &[u8]) -> usize
     ensures { result ≡ run C.member text.now }
 {
-    let mut size = 0;
-    while size < text.len() {
-        if !C::has(text[size]) {
-            return size;
-        }
-        size += 1;
-    }
-    size
-}
-
-// The place behind the run that stands at a place.
-fn past_run<C: Class>(text: &[u8], at: usize) -> usize
-    requires { at ≤ length text.now }
-    ensures { result ≡ at + run C.member (drop at text.now) }
-{
-    at + run_of::<C>(&text[at..])
+    text.iter()
+        .position(|byte| !C::has(*byte))
+        .unwrap_or(text.len())
 }
 
 // The bytes of a block, which is passed whole or not at all.
 const BLOCK: usize = 8;
 
-// Whether the run goes on through the first block. Every byte is looked at, so that the compiler takes them together.
-fn fills_block<C: Class>(text: &[u8]) -> bool
-    requires { block ≤ length text.now }
-    ensures { result ≡ leb block (run C.member text.now) }
+// Whether every byte of a block is of the class. Each is looked at, so that the compiler takes them together.
+fn fills_block<C: Class>(bytes: &[u8; BLOCK]) -> bool
+    ensures { result ≡ leb block (run C.member bytes.now) }
 {
-    let mut all = true;
-    let mut place = 0;
-    while place < BLOCK {
-        all = all & C::has(text[place]);
-        place += 1;
-    }
-    all
+    bytes.iter().fold(true, |all, byte| all & C::has(*byte))
 }
 
 // How many bytes of the class stand in a row at the front, by blocks: where most runs are short and some are long.
 fn run_by_blocks<C: Class>(text: &[u8]) -> usize
     ensures { result ≡ run C.member text.now }
 {
-    let mut passed = 0;
-    while BLOCK <= text.len() - passed {
-        if !fills_block::<C>(&text[passed..]) {
-            break;
-        }
-        passed += BLOCK;
+    let (blocks, last) = text.as_chunks::<BLOCK>();
+    match blocks.iter().position(|bytes| !fills_block::<C>(bytes)) {
+        Some(full) => full * BLOCK + run_of::<C>(&blocks[full]),
+        None => blocks.len() * BLOCK + run_of::<C>(last),
     }
-    past_run::<C>(text, passed)
 }
 
-// The lesser of two numbers.
-fn lesser(a: u8, b: u8) -> u8
-    ensures { result ≡ min a b }
-{
-    if a < b { a } else { b }
-}
-
-// Where the run ends among so many first bytes; their number where it does not. Every byte is looked at here, too: no branch
+// Where the run ends among the bytes of a window; their number where it does not. Every byte is looked at here, too: no branch
 // for each.
-fn end_in_window<C: Class>(size: u8, text: &[u8]) -> usize
-    requires { size ≤ length text.now }
-    ensures { result ≡ min size (run C.member text.now) }
+fn end_in_window<C: Class, const N: usize>(bytes: &[u8; N]) -> usize
+    requires { N < 2 ^ 8 }
+    ensures { result ≡ min N (run C.member bytes.now) }
 {
+    let size = N as u8;
     let mut end = size;
-    let mut at = 0;
-    while at < size {
-        let inside = C::has(text[at as usize]);
-        let place = if inside { size } else { at };
-        end = lesser(place, end);
-        at += 1;
+    for (place, byte) in (0u8..).zip(bytes) {
+        let found = if C::has(*byte) { size } else { place };
+        end = end.min(found);
     }
     end as usize
 }
 
 // The same count by windows of a size: where the end may stand anywhere. The next window does not wait for the end in this one.
-fn run_by_windows<C: Class>(size: u8, text: &[u8]) -> usize
-    requires { 0 < size }
+fn run_behind<C: Class, const N: usize>(text: &[u8]) -> usize
+    requires { (0 < N) × (N < 2 ^ 8) }
     ensures { result ≡ run C.member text.now }
 {
-    let mut passed = 0;
-    while size as usize <= text.len() - passed {
-        let end = end_in_window::<C>(size, &text[passed..]);
-        if end < size as usize {
-            return passed + end;
+    let (windows, last) = text.as_chunks::<N>();
+    for (passed, bytes) in windows.iter().enumerate() {
+        let end = end_in_window::<C, N>(bytes);
+        if end < N {
+            return passed * N + end;
         }
-        passed += size as usize;
     }
-    past_run::<C>(text, passed)
+    windows.len() * N + run_of::<C>(last)
+}
+
+// The first window is looked at before the others are counted: most runs end there.
+fn run_by_windows<C: Class, const N: usize>(text: &[u8]) -> usize
+    requires { (0 < N) × (N < 2 ^ 8) }
+    ensures { result ≡ run C.member text.now }
+{
+    match text.split_first_chunk::<N>() {
+        None => run_of::<C>(text),
+        Some((bytes, behind)) => {
+            let end = end_in_window::<C, N>(bytes);
+            if end < N {
+                return end;
+            }
+            N + run_behind::<C, N>(behind)
+        }
+    }
 }
 
 // The sizes of window: the least, of those tried, for which the compiler takes the bytes of these classes together.
-const WINDOW: u8 = 32;
+const WINDOW: usize = 32;
 
-const LINE_WINDOW: u8 = 48;
+const LINE_WINDOW: usize = 48;
 
-// How many bytes of a word stand at the front. Few words do not end in the first window.
+// How many bytes of a word stand at the front.
 pub fn word_run(text: &[u8]) -> usize
     ensures { result ≡ run wordly text.now }
 {
-    let size = WINDOW as usize;
-    if text.len() < size {
-        return run_of::<Wordly>(text);
-    }
-    let end = end_in_window::<Wordly>(WINDOW, text);
-    if end < size {
-        return end;
-    }
-    size + run_by_windows::<Wordly>(WINDOW, &text[size..])
+    run_by_windows::<Wordly, WINDOW>(text)
 }
 
 // How many bytes stand at the front that a string may hold as they are.
 pub fn string_run(text: &[u8]) -> usize
     ensures { result ≡ run ordinary text.now }
 {
-    run_by_windows::<Ordinary>(WINDOW, text)
+    run_by_windows::<Ordinary, WINDOW>(text)
 }
 
 // How many bytes stand before the end of the line.
 pub fn line_run(text: &[u8]) -> usize
     ensures { result ≡ run in_line text.now }
 {
-    run_by_windows::<InLine>(LINE_WINDOW, text)
+    run_by_windows::<InLine, LINE_WINDOW>(text)
 }
 
 // How many bytes stand before the next star.

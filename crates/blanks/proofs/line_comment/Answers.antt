@@ -2,9 +2,7 @@
 -- A run stays in the rest after the two bytes, so the sum fits. Assumes nothing.
 use mathlib.Core.Path.{ap}
 use Prim.Native.Nat.{ℕ, ◌+◌}
-use Rattle.std.specs.Prelude.{Result, Ok}
-use Rattle.text.specs.declared.Lexeme.{Lexeme}
-use Rattle.text.specs.declared.Fault.{Fault}
+use Rattle.std.specs.Prelude.{Ok}
 use native.Mathlib.Omega.{arith}
 use Rattle.text.specs.Blanks.{line_comment}
 use Rattle.text.specs.Bytes.{in_line}

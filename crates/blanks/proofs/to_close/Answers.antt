@@ -1,52 +1,29 @@
--- `blanks::to_close` meets its contract. The loop's invariant: no */ begins in the bytes passed.
--- Two bytes that are */ end the search; any others move it on to the next star; one last byte holds none. Assumes nothing.
-use Prim.Native.Nat.{ℕ, ◌+◌}
-use mathlib.Core.List.{List}
-use native.Mathlib.Omega.{arith}
-use borrow.Author.Rules.{rules}
-use borrow.Author.Tests.{ne_eqb}
-use Rattle.text.proofs.Rests.{counted}
-use Rattle.blanks.proofs.Closing.{Passed, passed_none, passed_more, passed_run, passed_closed, passed_all}
-use Rattle.blanks.proofs.to_close.Tie as tie
-use Rattle.blanks.proofs.to_close.Lts as lts
-use Rattle.blanks.proofs.to_close.Reads as reads
+-- `blanks::to_close` meets its contract. The loop's invariant: no */ begins before the rest.
+-- Two bytes that are */ end the search; any others move it on to the next star. Assumes nothing.
+use Rattle.std.proofs.Common.{◌∙◌, sym, rules}
+use Rattle.text.specs.Classes.{starless}
+use Rattle.text.proofs.Rests.{rest}
+use Rattle.text.proofs.Runs.{run_within}
+use Rattle.blanks.proofs.Closing.{passed_none, passed_closed, passed_more, passed_all}
 use Rattle.blanks.proofs.to_close.Goals as goal
-use Rattle.blanks.proofs.to_close.Goals.{then-bs-passed-eq42+else-bs-passed-eq47, else-bs-passed-eq42}
 
-pub returns-then-bs-passed-eq47 : goal.returns-then-bs-passed-eq47
-returns-then-bs-passed-eq47 c =
-    passed_closed _ _ c.loop-passed-test.true c.loop-passed.invariant
-    (rw (c.if-bs-passed-eq42.true, c.if-bs-passed-eq47.true))
+pub loop-behind-init : goal.loop-behind-init
+loop-behind-init c = passed_none _
 
--- the text, and the place behind the byte that was looked at
-abbrev text : lts.After-starless_run tie.the-claims reads.Pre reads.Post goal.the-invariant-loop-passed goal.the-decreases-loop-passed → List ℕ
-text c = c.args.bs.now
+pub loop-behind-preserved : goal.loop-behind-preserved
+loop-behind-preserved c =
+    let behind = c.in-Some.behind.now in
+    rw (rest behind c.starless_run.result, c.starless_run.ensures)
+    (passed_more _ _ c.loop-behind.invariant _ behind c.in-Some.ensures.cases.0 (sym c.closes.ensures ∙ c.if-closes.false))
 
-abbrev next : lts.After-starless_run tie.the-claims reads.Pre reads.Post goal.the-invariant-loop-passed goal.the-decreases-loop-passed → ℕ
-next c = c.loop-passed.passed + 1
+pub returns-then-closes : goal.returns-then-closes
+returns-then-closes c = passed_closed _ _ c.loop-behind.invariant _ _ c.in-Some.ensures.cases.0 (sym c.closes.ensures ∙ c.if-closes.true)
 
-passed : (c : lts.After-starless_run tie.the-claims reads.Pre reads.Post goal.the-invariant-loop-passed goal.the-decreases-loop-passed) → Passed (text c) (next c + c.starless_run-passed.result)
-passed c =
-    let joined = c.before.before in
-    let one =
-    passed_more (text c) _ joined.loop-passed-test.true joined.loop-passed.invariant
-    (elim joined.if-bs-passed-eq42.branch [
-      | then-bs-passed-eq42+else-bs-passed-eq47 w ↦ simp (w.if-bs-passed-eq42.true, ne_eqb _ _ w.if-bs-passed-eq47.false)
-      | else-bs-passed-eq42 w ↦ simp (ne_eqb _ _ w.if-bs-passed-eq42.false)
-    ]) in
-    passed_run _ one (counted _ _ one.within c.starless_run-passed.ensures)
+pub slice_bounds-rest-count : goal.slice_bounds-rest-count
+slice_bounds-rest-count c = let within = run_within starless c.in-Some.behind.now in search rules
+
+pub slice_bounds-rest-start : goal.slice_bounds-rest-start
+slice_bounds-rest-start c = let within = run_within starless c.in-Some.behind.now in search rules
 
 pub returns : goal.returns
-returns c = passed_all _ c.loop-passed-test.false c.loop-passed.invariant
-
-pub loop-passed-init : goal.loop-passed-init
-loop-passed-init c = passed_none _
-
-pub overflow_add-passed-in-loop-passed-2 : goal.overflow_add-passed-in-loop-passed-2
-overflow_add-passed-in-loop-passed-2 c = let w = (passed c.before).within in search rules
-
-pub loop-passed-smaller : goal.loop-passed-smaller
-loop-passed-smaller c = omega (arith, (passed c.before).within)
-
-pub loop-passed-preserved : goal.loop-passed-preserved
-loop-passed-preserved c = passed c.before
+returns c = passed_all _ _ c.loop-behind.invariant c.in_default.ensures.cases

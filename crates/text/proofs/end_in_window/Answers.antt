@@ -1,50 +1,30 @@
 -- `text::end_in_window` meets its contract. The loop's invariant: the end is what is known of it from the bytes looked at.
 -- One byte more is one step of the law. Assumes nothing.
-use Prim.Native.Nat.{ℕ, min}
-use mathlib.Core.Bool.{Bool, cond}
-use mathlib.Core.Path.{◌≡◌, ap, sym, ◌∙◌}
-use native.Mathlib.Omega.{arith}
-use borrow.Author.Rules.{rules}
-use Rattle.std.proofs.Common.{get_or}
-use Rattle.text.specs.Bytes.{run}
-use Rattle.text.proofs.Blocks.{end_so_far, end_unknown, end_further, end_known}
-use Rattle.text.proofs.end_in_window.Given as given
+use Rattle.std.proofs.Common.{◌∙◌, ◌+◌, ◌≡◌, ◌<◌, ap, sym, cond, Bool, get_or, arith}
+use Rattle.text.proofs.Blocks.{end_further}
+use Rattle.text.proofs.Runs.{front}
 use Rattle.text.proofs.end_in_window.Goals as goal
-use Rattle.text.proofs.end_in_window.Goals.{then-inside, else-inside, After-loop-at}
+use Rattle.text.proofs.end_in_window.Goals.{then-has, else-has}
 
-pub loop-at-preserved : goal.loop-at-preserved
-loop-at-preserved g c =
-    let tested = c.before.before.before in
-    let turn = tested.before.before in
-    let args = turn.args in
-    let k = turn.loop-at.at in
-    let inside = tested.has-inside.ensures in
-    let chosen = λ (x : Bool). cond x args.size k in
-    let placed : c.if-inside.place ≡ chosen (g.C.Class.member (get_or args.text.now k 0)) =
-    elim c.if-inside.branch [
-      | then-inside w ↦ w.place-is ∙ ap chosen (sym w.if-inside.true ∙ inside)
-      | else-inside w ↦ w.place-is ∙ ap chosen (sym w.if-inside.false ∙ inside)
-    ] in (
-      omega arith,
-      c.lesser-end.ensures
-          ∙ end_further g.C.Class.member args.text.now args.size k _ _ turn.loop-at-test.true (omega arith) placed turn.loop-at.invariant.1,
+pub loop-place-preserved : goal.loop-place-preserved
+loop-place-preserved g c =
+    let class = g.C.Class.member in
+    let bytes = c.args.bytes.now in
+    let size = g.row.N in
+    let k = c.loop-place.place-iterator.a.start in
+    let known = c.loop-place.invariant in
+    let step = c.in-Some.ensures.steps in
+    let first = front bytes k (sym known.1 ∙ step.1) in
+    let chosen = λ (x : Bool). cond x size k in
+    let inside = c.has.ensures ∙ ap class first.byte in
+    let placed : c.if-has.found ≡ chosen (class (get_or bytes k 0)) =
+    elim c.if-has.branch [
+      | then-has w ↦ w.found-is ∙ ap chosen (sym w.if-has.true ∙ inside)
+      | else-has w ↦ w.found-is ∙ step.0.0 ∙ ap chosen (sym w.if-has.false ∙ inside)
+    ] in
+    let next : c.next.new.self.a.start ≡ k + 1 = omega (arith, step.0.0, step.0.1) in
+    let within : k < size = omega (arith, first.inside, c.told-bytes) in (
+      omega (arith, next, within),
+      rw next first.behind,
+      rw next (c.min-end.ensures ∙ end_further class bytes size k _ _ within first.inside placed known.2),
     )
-
--- all bytes of the window are looked at
-found : (g : given.Over) (c : After-loop-at g) →
-    let args = c.args in
-    c.loop-at.end ≡ min args.size (run g.C.Class.member args.text.now)
-found g c =
-    let args = c.args in
-    let loop = c.loop-at in
-    let r = run g.C.Class.member args.text.now in
-    loop.invariant.1 ∙ ap (λ (k : ℕ). end_so_far args.size k r) (omega (arith, loop.invariant.0)) ∙ end_known args.size r
-
-pub loop-at-init : goal.loop-at-init
-loop-at-init g c = (omega arith, end_unknown _ _ c.args.size)
-
-pub overflow_cast-result : goal.overflow_cast-result
-overflow_cast-result g c = let e = found g c in search rules
-
-pub returns : goal.returns
-returns g c = found g c

@@ -1,23 +1,15 @@
--- `text::fills_block` meets its contract. The loop's invariant: whether the run reaches through the bytes looked at.
--- One byte more is one step of the law. Assumes nothing.
-use Prim.Native.Nat.{ℕ}
-use mathlib.Core.Path.{ap, ◌∙◌}
-use native.Mathlib.Omega.{arith}
-use lib.Dec.{leb}
+-- `text::fills_block` meets its contract: the run fills the block where every byte of it is of the class.
+-- By induction on the bytes. Assumes nothing.
+use Rattle.std.proofs.Common.{◌∙◌, ◌&&◌, ap, true, Bool, ℕ, leb, rules, tests}
+use Rattle.std.proofs.lemmas.Iterator.{YieldsList-from_slice}
+use Rattle.std.proofs.lemmas.Iterator.Consumers.{fold_from_yields_List}
 use Rattle.text.specs.Bytes.{run}
-use Rattle.text.proofs.Blocks.{reaches_start, reaches_more}
+use Rattle.text.proofs.Blocks.{fills}
 use Rattle.text.proofs.fills_block.Goals as goal
-
-pub loop-place-preserved : goal.loop-place-preserved
-loop-place-preserved g c =
-    let turn = c.before.before.before.before in
-    (omega arith, reaches_more _ _ turn.loop-place.place (omega arith) turn.loop-place.invariant.1 c.has-all.ensures)
 
 pub returns : goal.returns
 returns g c =
-    let args = c.args in
-    let loop = c.loop-place in
-    loop.invariant.1 ∙ ap (λ (k : ℕ). leb k (run g.C.Class.member args.text.now)) (omega (arith, loop.invariant.0))
-
-pub loop-place-init : goal.loop-place-init
-loop-place-init g c = (omega arith, reaches_start _ _)
+    let class = g.C.Class.member in
+    let bytes = c.args.bytes.now in
+    let folded = fold_from_yields_List _ (λ (all : Bool) (b : ℕ). all && class b) true c.fold.result c.fold.ensures.ran (YieldsList-from_slice bytes cc) (λ a x b q k. search (rules, tests)) in
+    folded ∙ fills class bytes ∙ ap (λ (n : ℕ). leb n (run class bytes)) (search rules)

@@ -1,44 +1,33 @@
--- `text::run_by_blocks` meets its contract. The loop's invariant: the bytes passed are of the class.
--- A block that the run fills moves it on; then what is left of the run is counted. Assumes nothing.
-use Prim.Native.Nat.{ℕ}
-use mathlib.Core.List.{List}
-use mathlib.Core.Path.{ap, sym, ◌∙◌}
-use native.Mathlib.Omega.{arith}
-use borrow.Author.Tests.{leb-true}
-use lib.Dec.{leb}
-use lib.ListN.{length, drop, length-drop}
-use Rattle.text.specs.Bytes.{run}
+-- `text::run_by_blocks` meets its contract: the full blocks, and the run in the first that is not full or in the bytes behind them.
+-- The blocks before the one that the search finds are of the class. Assumes nothing.
+use Rattle.std.proofs.Common.{sym, ◌/◌, rules, tests, length}
+use Rattle.std.specs.Simd.{first_chunks}
+use Rattle.std.proofs.lemmas.Iterator.{YieldsList-from_slice}
+use Rattle.std.proofs.lemmas.Iterator.Search.{position_from_yields_List}
 use Rattle.text.specs.Classes.{block}
-use Rattle.text.proofs.Blocks.{passed_block}
-use Rattle.text.proofs.Rests.{rest}
-use Rattle.text.proofs.Runs.{passed_none}
+use Rattle.text.proofs.Blocks.{ends_in, ends_at, passed_all, parts_fit}
 use Rattle.text.proofs.run_by_blocks.Goals as goal
 
-pub fills_block-requires : goal.fills_block-requires
-fills_block-requires g c =
-    let text = c.args.text.now in
-    let n = c.loop-passed.passed in
-    omega (arith, ap length (rest text n), length-drop n text, c.loop-passed-test.true)
-
-pub loop-passed-preserved : goal.loop-passed-preserved
-loop-passed-preserved g c =
-    let turn = c.before.before.before.before.before in
-    let args = turn.args in
+pub returns-in-Some : goal.returns-in-Some
+returns-in-Some g c =
     let class = g.C.Class.member in
-    let n = turn.loop-passed.passed in
-    let fills =
-    sym (ap (λ (l : List ℕ). leb block (run class l)) (rest args.text.now n)) ∙ sym c.fills_block.ensures
-    ∙ c.if-not-fills_block.false in
-    passed_block class args.text.now (leb-true block (run class (drop n args.text.now)) fills) turn.loop-passed.invariant
+    let text = c.args.text.now in
+    let k = length text / block in
+    let found = position_from_yields_List (ends_in class block k text) _ _ c.position.result c.position.ensures.ran (YieldsList-from_slice (first_chunks block k text) cc) (λ x b q k. search (rules, tests)) in
+    let e = ends_at class block k text c.position.result found c.in-Some.full c.in-Some.is in
+    rw (c.run_of.ensures, c.as_chunks.ensures.front) e
 
-pub returns : goal.returns
-returns g c = c.past_run.ensures ∙ sym c.loop-passed.invariant.so_far
+pub returns-in-None : goal.returns-in-None
+returns-in-None g c =
+    let class = g.C.Class.member in
+    let text = c.args.text.now in
+    let k = length text / block in
+    let found = position_from_yields_List (ends_in class block k text) _ _ c.position.result c.position.ensures.ran (YieldsList-from_slice (first_chunks block k text) cc) (λ x b q k. search (rules, tests)) in
+    let e = passed_all class block k text c.position.result found c.in-None.is in
+    rw (c.run_of-in-None.ensures, c.as_chunks.ensures.back, c.as_chunks.ensures.front_len) (sym e)
 
-pub loop-passed-init : goal.loop-passed-init
-loop-passed-init g c = passed_none _ _
-
-pub overflow_sub-text : goal.overflow_sub-text
-overflow_sub-text g c = c.loop-passed.invariant.within
-
-pub past_run-requires : goal.past_run-requires
-past_run-requires g c = c.loop-passed.invariant.within
+pub overflow_add-result-in-None : goal.overflow_add-result-in-None
+overflow_add-result-in-None g c =
+    let many = c.as_chunks.ensures in
+    let within = parts_fit g.C.Class.member block _ _ c.args.text.now _ many.front_len many.back c.run_of-in-None.ensures in
+    search rules
