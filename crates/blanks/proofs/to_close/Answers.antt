@@ -4,11 +4,8 @@ use Rattle.std.proofs.Common.{◌∙◌, sym, rules}
 use Rattle.text.specs.Classes.{starless}
 use Rattle.text.proofs.Rests.{rest}
 use Rattle.text.proofs.Runs.{run_within}
-use Rattle.blanks.proofs.Closing.{passed_none, passed_closed, passed_more, passed_all}
+use Rattle.blanks.proofs.Closing.{passed_closed, passed_more, passed_all}
 use Rattle.blanks.proofs.to_close.Goals as goal
-
-pub loop-behind-init : goal.loop-behind-init
-loop-behind-init c = passed_none _
 
 pub loop-behind-preserved : goal.loop-behind-preserved
 loop-behind-preserved c =
