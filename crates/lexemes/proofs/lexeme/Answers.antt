@@ -80,7 +80,8 @@ returns-then-has-3 c =
     let no_letter = seen c.args.bs.now c.requires letter c.has.ensures c.if-has.false in
     let p =
     plain c.args.bs.now c.requires no_letter (seen c.args.bs.now c.requires space c.has-2.ensures c.if-has-2.false) c.in_default.in_default-own.rest in
-    c.again-then-has-3.ensures ∙ c.number-then-has-3.ensures ∙ digit_number _ p no_letter (seen c.args.bs.now c.requires digit c.has-in_default.ensures c.if-has-3.true)
+    c.again-then-has-3.ensures ∙ c.number-then-has-3.ensures
+    ∙ digit_number _ p no_letter (seen c.args.bs.now c.requires digit c.has-in_default.ensures c.if-has-3.true)
 
 pub returns-else-has-3 : goal.returns-else-has-3
 returns-else-has-3 c =
