@@ -1,13 +1,13 @@
 -- A string from place to place: a piece at a time, and past a run of bytes that it holds as they are.
 -- A piece is a byte at least and there are more steps than bytes, so how many more does not matter. Assumes nothing.
 use mathlib.Core.Path.{◌≡◌, refl, sym, ap, ◌∙◌}
-use mathlib.Core.Bool.{Bool, true, false, cond}
+use mathlib.Core.Bool.{Bool, true}
 use mathlib.Core.List.{List, [], ◌∷◌}
 use Prim.Native.Char.{code}
-use Prim.Native.Nat.{ℕ, zero, suc, ◌+◌, ◌≤◌, ◌<◌}
+use Prim.Native.Nat.{ℕ, zero, suc, ◌+◌, ◌-◌, ◌≤◌, ◌<◌}
 use native.Mathlib.Nat.{add-zero}
 use native.Mathlib.Omega.{arith}
-use lib.ListN.{length, drop, length-drop}
+use lib.ListN.{length, take, drop, length-drop}
 use lib.Seq.{get_or-drop}
 use Rattle.std.specs.Prelude.{Result, Ok, Err}
 use Rattle.std.proofs.lemmas.Bool.Decides.{nat_tests}
@@ -62,13 +62,8 @@ module _ (wide : Bool) (bs : List ℕ) where
 run_at : (class : ℕ → Bool) (bs : List ℕ) (k : ℕ) → k < run class bs → class (at bs k) ≡ true
 unfolding run
 run_at class [] k h = absurd (omega arith)
-run_at class (b ∷ bs) k h = go (class b) refl (run_at class bs) k h
-  where
-    go : (t : Bool) → class b ≡ t → ((j : ℕ) → j < run class bs → class (at bs j) ≡ true) → (k : ℕ) →
-        k < cond t (suc (run class bs)) 0 → class (at (b ∷ bs) k) ≡ true
-    go true e on zero l = e
-    go true e on (suc j) l = on j (omega arith)
-    go false e on j l = absurd (omega arith)
+run_at class (b ∷ bs) zero h = grind arith
+run_at class (b ∷ bs) (suc k) h = let later = run_at class bs k in grind arith
 
 module _ (wide : Bool) (bs : List ℕ) where
   past_ordinary : (n : ℕ) → n ≤ length bs → ordinary (at bs n) ≡ true → string wide n bs ≡ string wide (n + 1) bs
@@ -86,5 +81,22 @@ module _ (wide : Bool) (bs : List ℕ) where
       let fits = run_within ordinary (drop n bs) in
       grind (arith, string_past n k h (omega arith), past_ordinary (n + k), length-drop n bs)
 
--- what the code counts from a place on, and reads there, beside what the definitions see
-pub ruleset places = (rest, run_within, length-drop)
+-- where the code stands, past the bytes that the string holds as they are: the next piece decides
+module _ (wide : Bool) (start : ℕ) (bs : List ℕ) where
+  pub record Next (place : ℕ) : Type 0 where
+    pub within : place ≤ length bs
+    pub is_rest : take (length bs - place) (drop place bs) ≡ drop place bs
+    pub is : string wide start bs ≡ string_piece (Token (string_kind wide) (place + 1)) (λ m. string wide (place + m) bs) (here wide bs place)
+    pub on : (m : ℕ) → here wide bs place ≡ Ok (Character m) → (0 < m) × (place + m ≤ length bs)
+
+  pub next : {from size : ℕ} → from ≤ length bs → string wide start bs ≡ string wide from bs →
+      size ≡ run ordinary (take (length bs - from) (drop from bs)) → Next (from + size)
+  next {from} {size} h so_far counted =
+      let ran = counted ∙ ap (run ordinary) (rest bs from) in
+      let fits : from + size ≤ length bs = omega (arith, run_within ordinary (drop from bs), length-drop from bs) in
+      record {
+        within = fits;
+        is_rest = rest bs (from + size);
+        is = so_far ∙ string_past wide bs from size h (omega arith) ∙ string_next wide bs (from + size) fits;
+        on = λ m e. character_within wide (code "\"") (from + size) bs fits e;
+      }

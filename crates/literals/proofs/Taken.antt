@@ -1,75 +1,52 @@
 -- What a piece of a literal takes: bytes that stand for themselves, one at least where it is a character. Where it is open, a line or the text ends.
 -- By the cases of the definitions: the bytes of an escape, too, are of the class that stands for itself. Assumes nothing.
-use mathlib.Core.Path.{◌≡◌, refl, sym, ap, subst, subst⁻¹, ◌∙◌}
-use mathlib.Core.Bool.{Bool, true, false, ◌&&◌, ◌||◌, cond, false≢true}
+use mathlib.Core.Path.{◌≡◌, refl, sym, subst, ◌∙◌}
+use mathlib.Core.Bool.{Bool, true, ◌||◌}
 use mathlib.Core.List.{List, [], ◌∷◌}
 use Prim.Native.Char.{code}
 use Prim.Native.Nat.{ℕ, zero, suc, ◌+◌, ◌-◌, ◌≤◌, ◌<◌}
 use native.Mathlib.Omega.{arith}
-use borrow.Author.Tests.{ltb-true, ltb-false, leb-true, leb-false, le-leb, eqb-true}
-use lib.Dec.{eqb, leb, ltb}
+use borrow.Author.Tests.{eqb-true}
+use lib.Dec.{eqb, ltb}
+use Rattle.std.proofs.lemmas.Bool.Decides.{nat_tests}
 use lib.ListN.{length, take, drop, length-take, length-drop}
 use lib.Seq.{get_or-drop, drop-drop}
 use Rattle.text.specs.Bytes.{from, end, at, run, octal, hexadecimal, line_end, ended}
 use Rattle.text.specs.Literals.{plain, simple, digits, zeros, numbered, above_377, no_character}
 use Rattle.text.specs.Literals.{octal_escape, hexadecimal_digits, hexadecimal_escape, escape, piece}
-use Rattle.text.proofs.Choices.{both, either, choose}
+use Rattle.text.proofs.Choices.{choose}
 use Rattle.text.proofs.Rests.{past_end}
-use Rattle.text.proofs.Runs.{run_within}
 use Rattle.std.specs.Prelude.{Result, Ok, Err}
 use Rattle.text.specs.declared.Fault.{Fault}
 use Rattle.text.specs.declared.Fault.TheVariants.{NoLexeme, Open, BadLiteral, OtherCase}
 use Rattle.text.specs.declared.Piece.{Piece}
 use Rattle.text.specs.declared.Piece.TheVariants.{Character, Zero, Close}
 
-pub digits_le : (class : ℕ → Bool) (most : ℕ) (bs : List ℕ) → digits class most bs ≤ length bs
-unfolding digits
-digits_le class most bs = omega (arith, run_within class (take most bs), length-take most bs)
-
 -- between two numbers of an interval
 pub bounds : (lo hi b : ℕ) → from lo hi b ≡ true → (lo ≤ b) × (b ≤ hi)
-bounds lo hi b e = let w = both (leb lo b) (leb b hi) e in (leb-true lo b w.0, leb-true b hi w.1)
-
-from_within : (least most lo hi b : ℕ) → from least most lo ≡ true → from least most hi ≡ true → from lo hi b ≡ true → from least most b ≡ true
-from_within least most lo hi b l h e =
-    let low = bounds least most lo l in
-    let high = bounds least most hi h in
-    let inside = bounds lo hi b e in
-    rw (le-leb least b (omega arith), le-leb b most (omega arith))
+bounds lo hi b e = (grind (arith, nat_tests), grind (arith, nat_tests))
 
 -- the bytes of an escape
-module _ (b : ℕ) where
-  is : (k : ℕ) → plain k ≡ true → eqb b k ≡ true → plain b ≡ true
-  is k p e = subst⁻¹ (λ (c : ℕ). plain c ≡ true) (eqb-true b k e) p
+octal_plain : (b : ℕ) → octal b ≡ true → plain b ≡ true
+unfolding octal plain
+octal_plain b e = grind (arith, nat_tests)
 
-  octal_plain : octal b ≡ true → plain b ≡ true
-  unfolding octal plain
-  octal_plain = from_within _ _ (code "0") (code "7") b refl refl
+hexadecimal_plain : (b : ℕ) → hexadecimal b ≡ true → plain b ≡ true
+unfolding hexadecimal plain
+hexadecimal_plain b e = grind (arith, nat_tests)
 
-  hexadecimal_plain : hexadecimal b ≡ true → plain b ≡ true
-  unfolding hexadecimal plain
-  hexadecimal_plain =
-      either _ _ (from_within _ _ (code "0") (code "9") b refl refl)
-      (either _ _ (from_within _ _ (code "A") (code "F") b refl refl) (from_within _ _ (code "a") (code "f") b refl refl))
+simple_plain : (b : ℕ) → simple b ≡ true → plain b ≡ true
+unfolding simple plain
+simple_plain b e = grind (arith, nat_tests)
 
-  simple_plain : simple b ≡ true → plain b ≡ true
-  unfolding simple plain
-  simple_plain =
-      either _ _ (is (code "n") refl) (either _ _ (is (code "t") refl) (either _ _ (is (code "v") refl)
-      (either _ _ (is (code "b") refl) (either _ _ (is (code "r") refl) (either _ _ (is (code "f") refl)
-      (either _ _ (is (code "a") refl) (either _ _ (is (code "\\") refl) (either _ _ (is (code "?") refl)
-      (either _ _ (is (code "'") refl) (is (code "\"") refl))))))))))
+backslash_plain : (b : ℕ) → eqb b (code "\\") ≡ true → plain b ≡ true
+unfolding plain
+backslash_plain b e = grind (arith, nat_tests)
 
-  -- hex digits come after x or u
-  hexadecimal_start : (wide : Bool) → ltb 0 (hexadecimal_digits wide b) ≡ true → plain b ≡ true
-  unfolding hexadecimal_digits plain
-  hexadecimal_start wide = go (eqb b (code "x")) (eqb b (code "u")) wide refl refl
-    where
-      go : (x u wide : Bool) → eqb b (code "x") ≡ x → eqb b (code "u") ≡ u → ltb 0 (cond x 2 (cond (u && wide) 4 0)) ≡ true → plain b ≡ true
-      go true u wide e f h = is (code "x") refl e
-      go false true true e f h = is (code "u") refl f
-      go false true false e f h = absurd (false≢true h)
-      go false false wide e f h = absurd (false≢true h)
+-- hex digits come after x or u
+hexadecimal_start : (b : ℕ) (wide : Bool) → ltb 0 (hexadecimal_digits wide b) ≡ true → plain b ≡ true
+unfolding hexadecimal_digits plain
+hexadecimal_start b wide h = grind (arith, nat_tests)
 
 -- the first n bytes stand for themselves
 abbrev pub Taken : List ℕ → ℕ → Type 0
@@ -91,24 +68,14 @@ taken_fewer bs le h j l = h j (omega arith)
 
 -- and m more behind them
 pub taken_more : (bs : List ℕ) (n : ℕ) {m : ℕ} → Taken bs n → Taken (drop n bs) m → Taken bs (n + m)
-taken_more bs n {m} h k j l = go (ltb j n) refl
-  where
-    go : (x : Bool) → ltb j n ≡ x → plain (at bs j) ≡ true
-    go true e = h j (ltb-true j n e)
-    go false e =
-        let le = ltb-false j n e in
-        let place : n + (j - n) ≡ j = omega arith in
-        ap (λ (i : ℕ). plain (at bs i)) (sym place) ∙ ap plain (sym (get_or-drop n bs (j - n) end)) ∙ k (j - n) (omega arith)
+taken_more bs n {m} h k j l =
+    let behind = get_or-drop n bs (j - n) end in
+    grind (arith, h j, k (j - n))
 
 -- the end of the text is not among them
 pub taken_within : (bs : List ℕ) (n : ℕ) → Taken bs n → n ≤ length bs
 unfolding plain
-taken_within bs n h = go (leb n (length bs)) refl
-  where
-    go : (x : Bool) → leb n (length bs) ≡ x → n ≤ length bs
-    go true e = leb-true n (length bs) e
-    go false e =
-        absurd (false≢true (ap plain (sym (past_end bs (omega arith))) ∙ h (length bs) (leb-false n (length bs) e)))
+taken_within bs n h = grind (arith, nat_tests, h (length bs), past_end bs {n = length bs})
 
 digits_taken : (class : ℕ → Bool) → ((b : ℕ) → class b ≡ true → plain b ≡ true) → (most : ℕ) (bs : List ℕ) → Taken bs (digits class most bs)
 unfolding digits run
@@ -189,18 +156,17 @@ module _ (quote : ℕ) (bs : List ℕ) where
   piece_stands wide =
       let b = at bs 0 in
       choose Here (eqb b quote) (λ e. eqb-true b quote e)
-      (choose Here (eqb b (code "\\")) (λ e. escape_stands (taken_one bs (is b (code "\\") refl e)) wide)
+      (choose Here (eqb b (code "\\")) (λ e. escape_stands (taken_one bs (backslash_plain b e)) wide)
       (choose Here (plain b) (λ e. (omega arith, taken_one bs e)) (no_character_stands 0 (taken_none bs) refl)))
 
--- a character stands in the text
-pub character_within : (wide : Bool) (quote n : ℕ) (bs : List ℕ) {m : ℕ} → n ≤ length bs → piece wide quote (drop n bs) ≡ Ok (Character m) →
-    (0 < m) × (n + m ≤ length bs)
-character_within wide quote n bs {m} h e =
-    let s : Stands quote (drop n bs) (Ok (Character m)) = subst (Stands quote (drop n bs)) e (piece_stands quote (drop n bs) wide) in
-    (s.0, omega (arith, taken_within (drop n bs) m s.1, length-drop n bs))
+-- so many bytes, taken behind n more, stand in the text
+taken_behind : (n : ℕ) (bs : List ℕ) {m : ℕ} → n ≤ length bs → (0 < m) × Taken (drop n bs) m → (0 < m) × (n + m ≤ length bs)
+taken_behind n bs {m} h t = (t.0, omega (arith, taken_within (drop n bs) m t.1, length-drop n bs))
 
-pub zero_within : (wide : Bool) (quote n : ℕ) (bs : List ℕ) {m : ℕ} → n ≤ length bs → piece wide quote (drop n bs) ≡ Ok (Zero m) →
-    (0 < m) × (n + m ≤ length bs)
-zero_within wide quote n bs {m} h e =
-    let s : Stands quote (drop n bs) (Ok (Zero m)) = subst (Stands quote (drop n bs)) e (piece_stands quote (drop n bs) wide) in
-    (s.0, omega (arith, taken_within (drop n bs) m s.1, length-drop n bs))
+-- so do a character and character zero
+module _ (wide : Bool) (quote n : ℕ) (bs : List ℕ) {m : ℕ} (h : n ≤ length bs) where
+  pub character_within : piece wide quote (drop n bs) ≡ Ok (Character m) → (0 < m) × (n + m ≤ length bs)
+  character_within e = taken_behind n bs h (subst (Stands quote (drop n bs)) e (piece_stands quote (drop n bs) wide))
+
+  pub zero_within : piece wide quote (drop n bs) ≡ Ok (Zero m) → (0 < m) × (n + m ≤ length bs)
+  zero_within e = taken_behind n bs h (subst (Stands quote (drop n bs)) e (piece_stands quote (drop n bs) wide))

@@ -1,4 +1,5 @@
 // Character and string literals: paper 01, "Character, string". A literal is read from the rest of the text that starts with it.
+// What tells the next piece is inlined always: so the piece stays in registers, where a call would leave it in memory.
 #![tactic(auto)]
 
 ghost use Rattle.std.specs.Prelude.{Err, ◌≡◌, ◌≤◌, length, take};
@@ -10,7 +11,7 @@ ghost use Rattle.literals.specs.Widths.{is_wide};
 use kinds::kind;
 use text::{Class, Fault, Hexadecimal, Lexeme, Octal, Piece, Plain};
 
-// Whether an L stands directly before the literal.
+// Whether an L stands directly before a literal.
 #[derive(Clone, Copy)]
 enum Width {
     Narrow,
@@ -51,6 +52,7 @@ impl Width {
 
 // A byte that makes an escape of two bytes with the backslash before it.
 #[tactic(auto, unfolding(text::specs::Literals::simple))]
+#[inline(always)]
 fn is_simple(byte: u8) -> bool
     ensures { result ≡ literals.simple byte }
 {
@@ -71,11 +73,19 @@ fn no_character(bs: &[u8]) -> Fault
     }
 }
 
+// The first bytes, up to a number of them.
+#[tactic(auto, using(std::proofs::lemmas::List::take_all))]
+fn first(most: usize, bs: &[u8]) -> &[u8]
+    ensures { result.now ≡ take most bs.now }
+{
+    bs.get(..most).unwrap_or(bs)
+}
+
 // The digits of a class that stand there, up to a number of them.
 fn digits<C: Class>(most: usize, bs: &[u8]) -> &[u8]
     ensures { result.now ≡ take (literals.digits C.member most bs.now) bs.now }
 {
-    let reach = &bs[..most.min(bs.len())];
+    let reach = first(most, bs);
     &reach[..text::run_of::<C>(reach)]
 }
 
@@ -113,6 +123,7 @@ fn octal_escape(bs: &[u8]) -> Result<Piece, Fault>
 
 // An escape with hex digits, from the first of them on.
 #[tactic(auto, unfolding(text::specs::Literals::hexadecimal_escape))]
+#[inline(always)]
 fn hexadecimal_escape(most: usize, bs: &[u8]) -> Result<Piece, Fault>
     ensures { result ≡ literals.hexadecimal_escape most bs.now }
 {
@@ -124,6 +135,7 @@ fn hexadecimal_escape(most: usize, bs: &[u8]) -> Result<Piece, Fault>
 
 // What stands after a backslash.
 #[tactic(auto, unfolding(text::specs::Literals::escape))]
+#[inline(always)]
 fn escape(width: Width, bs: &[u8]) -> Result<Piece, Fault>
     ensures { result ≡ literals.escape (is_wide width) bs.now }
 {
@@ -144,6 +156,7 @@ fn escape(width: Width, bs: &[u8]) -> Result<Piece, Fault>
 
 // What stands next inside a literal.
 #[tactic(auto, unfolding(text::specs::Literals::piece))]
+#[inline(always)]
 fn piece(width: Width, quote: u8, bs: &[u8]) -> Result<Piece, Fault>
     ensures { result ≡ literals.piece (is_wide width) quote bs.now }
 {

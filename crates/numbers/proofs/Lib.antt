@@ -1,4 +1,3 @@
-pub mod Tests
 pub mod Within
 pub mod Integers
 pub mod Parts

@@ -7,7 +7,7 @@ ghost use Rattle.text.specs.Numbers as numbers;
 ghost use Rattle.text.specs.Found.{found};
 
 use kinds::kind;
-use text::{Class, Digit, Fault, Hexadecimal, Lexeme, Octal, Wordly, run_of};
+use text::{Class, Digit, Fault, Hexadecimal, Lexeme, Octal, Wordly, byte_at, run_of};
 
 // The length of 0x or 0X and hex digits.
 #[tactic(auto, using(text::proofs::Runs::run_within), unfolding(text::specs::Numbers::hexadecimal_integer))]
@@ -49,10 +49,10 @@ fn mantissa(bs: &[u8], whole: usize) -> Option<usize>
     requires { whole ≡ run digit bs.now }
     ensures { result ≡ found (numbers.mantissa bs.now) }
 {
-    let [b'.', part @ ..] = &bs[whole..] else {
+    let Some(b'.') = byte_at(bs, whole) else {
         return (0 < whole).then_some(whole);
     };
-    let digits = run_of::<Digit>(part);
+    let digits = run_of::<Digit>(&bs[whole + 1..]);
     (0 < whole + digits).then_some(whole + 1 + digits)
 }
 
@@ -87,7 +87,7 @@ fn exponent(bs: &[u8]) -> usize
 fn followed(bs: &[u8], kind: u32, size: usize) -> Result<Lexeme, Fault>
     ensures { result ≡ numbers.followed bs.now kind size }
 {
-    if bs.get(size).is_some_and(|next| Wordly::has(*next)) {
+    if byte_at(bs, size).is_some_and(Wordly::has) {
         return Err(Fault::BadLiteral);
     }
     Ok(Lexeme::Token(kind, size))
@@ -100,11 +100,10 @@ pub fn number(bs: &[u8]) -> Result<Lexeme, Fault>
 {
     let whole = run_of::<Digit>(bs);
     let size = mantissa(bs, whole).ok_or(Fault::NoLexeme)?;
-    let rest = &bs[size..];
-    if let [b'd' | b'D', ..] = rest {
+    if let Some(b'd' | b'D') = byte_at(bs, size) {
         return followed(bs, kind::FIXED_LITERAL, size + 1);
     }
-    let end = size + exponent(rest);
+    let end = size + exponent(&bs[size..]);
     if whole < end {
         return followed(bs, kind::FLOATING, end);
     }

@@ -12,7 +12,8 @@ use Rattle.kinds.specs.Kinds.{bytes}
 use Rattle.words.specs.Search.{filter}
 use Rattle.words.proofs.Spellings.{either}
 
-pub filter_none : (test : List ℕ → Bool) (vs : List String) → ((j : ℕ) → j < length vs → test (bytes (get_or vs j "")) ≡ false) → filter test vs ≡ []
+pub filter_none : (test : List ℕ → Bool) (vs : List String) →
+    ((j : ℕ) → j < length vs → test (bytes (get_or vs j "")) ≡ false) → filter test vs ≡ []
 unfolding filter
 filter_none test [] none = refl
 filter_none test (v ∷ vs) none = rw (none 0 (omega arith)) (filter_none test vs (λ j h. none (suc j) (omega arith)))

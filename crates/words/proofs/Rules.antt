@@ -1,22 +1,20 @@
 -- The rules of the keyword table, each by one test that antt computes: kinds, keywords, spellings, next rows, first rows, few near, no two alike.
 -- A law of intervals turns the test into the rule at each row. Assumes nothing.
-use mathlib.Core.Path.{◌≡◌, refl, ap, sym, subst, ◌∙◌}
+use mathlib.Core.Path.{◌≡◌, refl, ap, sym}
 use mathlib.Core.Bool.{Bool, true, false, ◌&&◌, ◌||◌}
-use mathlib.Core.List.{List, [], ◌∷◌}
-use Prim.Native.Nat.{ℕ, zero, suc, ◌+◌, ◌-◌, ◌*◌, ◌≤◌, ◌<◌}
+use mathlib.Core.List.{List, []}
+use Prim.Native.Nat.{ℕ, suc, ◌+◌, ◌-◌, ◌≤◌, ◌<◌}
 use Prim.Native.String.{String}
 use native.Mathlib.Omega.{arith}
 use lib.Dec.{T, eqb, leb, ltb, eqb→eq, leb→le, ltb→lt}
-use lib.ListN.{length, get_or, take, drop}
-use mir.Syntax.{w64}
-use mir.Val.{Fits}
+use lib.ListN.{length, get_or, take}
 use Rattle.std.proofs.lemmas.List.{get_or_default}
 use Rattle.kinds.specs.Kinds.{first_keyword, keywords, nth_keyword, keyword, same}
 use Rattle.text.specs.Bytes.{at, from}
 use Rattle.text.specs.Words.{lower, same_but_case, keyword_but_case}
 use Rattle.text.proofs.Ranges.{agree, agreed, and_left, and_right, every, every_at, or_else, within}
 use Rattle.words.specs.Search.{filter, data_only, by_edition, near, near_to, most_near}
-use Rattle.words.specs.Comparison.{byte_end, all_letters}
+use Rattle.words.specs.Comparison.{all_letters}
 use Rattle.words.specs.Table.{first_from, spelling, data_only_rows, First}
 use Rattle.words.specs.Table.{row_count, shortest, longest, length_count}
 use Rattle.words.specs.Table.{first_letter, last_letter, letter_count}
@@ -24,7 +22,6 @@ use Rattle.words.specs.declared.keywords.Keyword.{Keyword}
 use Rattle.words.specs.declared.keywords.TheConstants.{KEYWORDS, FIRST_ROWS}
 use Rattle.words.proofs.Letters.{from_holds}
 use Rattle.words.proofs.Spellings.{unless, either, same_equal, near_length, near_letter}
-use Rattle.words.proofs.Comparing.{AllBytes}
 use Rattle.words.proofs.Filter.{filter_none}
 
 pub row_words : length by_edition ≡ row_count
@@ -219,9 +216,13 @@ pub index_at : {letter n : ℕ} (i : ℕ) (no_line : List ℕ) (none : ℕ) → 
     First (near letter n) 0 (get_or (get_or FIRST_ROWS i no_line) (n - shortest) none)
 index_at {letter} {n} i no_line none b e =
     let place : i ≡ letter - first_letter = omega arith in
-    let long = eqb→eq _ _ (every_at (λ l. eqb (length (line l)) length_count) first_letter letter_count lines_long {k = letter} b.a_on (omega (arith, b.to_z))) in
-    rw (place, get_or_default FIRST_ROWS (letter - first_letter) no_line [] (omega (arith, b.to_z)),
-    get_or_default (line letter) (n - shortest) none 0 (omega (arith, long, b.long_enough, b.short_enough)))
+    let long =
+    eqb→eq _ _ (every_at (λ l. eqb (length (line l)) length_count) first_letter letter_count lines_long {k = letter} b.a_on (omega (arith, b.to_z))) in
+    rw (
+      place,
+      get_or_default FIRST_ROWS (letter - first_letter) no_line [] (omega (arith, b.to_z)),
+      get_or_default (line letter) (n - shortest) none 0 (omega (arith, long, b.long_enough, b.short_enough)),
+    )
     (first_holds _ _ _ (at_entry entry_right index_right b))
 
 -- a row past the last is no row

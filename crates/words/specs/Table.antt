@@ -1,11 +1,10 @@
 -- The rows of the code's keyword table, one for each keyword, and the first rows by letter and length.
 -- Assumes nothing: these are definitions.
-use Rattle.std.specs.Prelude.{Bool, true, false, cond, List, [], ◌∷◌, ◌++◌, ◌≡◌, ℕ, zero, suc, ◌+◌, ◌-◌, ◌*◌, ◌%◌, ◌≤◌, ◌<◌, ltb, length, get_or, drop}
+use Rattle.std.specs.Prelude.{Bool, true, false, cond, List, [], ◌∷◌, ◌≡◌, ℕ, suc, ◌-◌, ◌≤◌, ◌<◌, length, get_or}
 use Prim.Native.Char.{code}
 use Prim.Native.String.{String}
-use Rattle.kinds.specs.Kinds.{bytes, keywords, keyword}
-use Rattle.text.specs.Words.{lower}
-use Rattle.words.specs.Search.{filter, data_only, by_edition, near, near_to}
+use Rattle.kinds.specs.Kinds.{bytes, keywords}
+use Rattle.words.specs.Search.{filter, data_only, by_edition}
 
 -- a row for each keyword, numbered from 0 on
 abbrev pub row_count : ℕ

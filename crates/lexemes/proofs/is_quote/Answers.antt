@@ -18,7 +18,11 @@ unfolding quote
 returns-in_default c =
     let byte = c.in_default.field-0 in
     let neither = c.in_default.field-0-test.1 in
-    simp (c.in_default.is, ne_eqb byte (code "\"") (λ e. neither (inl (c.in_default.field-0-is ∙ e))), ne_eqb byte (code "'") (λ e. neither (inr (c.in_default.field-0-is ∙ e))))
+    simp (
+      c.in_default.is,
+      ne_eqb byte (code "\"") (λ e. neither (inl (c.in_default.field-0-is ∙ e))),
+      ne_eqb byte (code "'") (λ e. neither (inr (c.in_default.field-0-is ∙ e))),
+    )
 
 pub returns-in_default-2 : goal.returns-in_default-2
 unfolding quote

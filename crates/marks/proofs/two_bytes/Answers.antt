@@ -35,15 +35,21 @@ both bs h e = ap (λ (y : ℕ). mark (get_or bs 0 0 ∷ y ∷ [])) (sym e) ∙ i
 
 pub returns-in-58 : goal.returns-in-58
 unfolding mark
-returns-in-58 c = some_kind (at c.args.bs.now 0 ∷ at c.args.bs.now 1 ∷ []) (omega arith) (sym (ap twice c.in-58.is) ∙ both c.args.bs.now c.if-bs-lt2.false c.if-bs-first.false)
+returns-in-58 c =
+    some_kind (at c.args.bs.now 0 ∷ at c.args.bs.now 1 ∷ []) (omega arith)
+    (sym (ap twice c.in-58.is) ∙ both c.args.bs.now c.if-bs-lt2.false c.if-bs-first.false)
 
 pub returns-in-60 : goal.returns-in-60
 unfolding mark
-returns-in-60 c = some_kind (at c.args.bs.now 0 ∷ at c.args.bs.now 1 ∷ []) (omega arith) (sym (ap twice c.in-60.is) ∙ both c.args.bs.now c.if-bs-lt2.false c.if-bs-first.false)
+returns-in-60 c =
+    some_kind (at c.args.bs.now 0 ∷ at c.args.bs.now 1 ∷ []) (omega arith)
+    (sym (ap twice c.in-60.is) ∙ both c.args.bs.now c.if-bs-lt2.false c.if-bs-first.false)
 
 pub returns-in-62 : goal.returns-in-62
 unfolding mark
-returns-in-62 c = some_kind (at c.args.bs.now 0 ∷ at c.args.bs.now 1 ∷ []) (omega arith) (sym (ap twice c.in-62.is) ∙ both c.args.bs.now c.if-bs-lt2.false c.if-bs-first.false)
+returns-in-62 c =
+    some_kind (at c.args.bs.now 0 ∷ at c.args.bs.now 1 ∷ []) (omega arith)
+    (sym (ap twice c.in-62.is) ∙ both c.args.bs.now c.if-bs-lt2.false c.if-bs-first.false)
 
 pub returns-in_default : goal.returns-in_default
 unfolding mark

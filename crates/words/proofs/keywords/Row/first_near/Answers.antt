@@ -10,7 +10,7 @@ use Rattle.text.specs.Bytes.{at, letter}
 use Rattle.text.specs.Words.{lower}
 use Rattle.text.proofs.Runs.{at_inside}
 use Rattle.words.specs.Comparison.{byte_end}
-use Rattle.words.specs.Table.{first_letter, letter_count, place_of, shortest, longest}
+use Rattle.words.specs.Table.{first_letter, place_of, shortest, longest}
 use Rattle.words.proofs.Letters.{Lettered, letter_at}
 use Rattle.words.proofs.Rules.{Bounded, index_at, none_near}
 use Rattle.words.proofs.Searching.{row_of}
