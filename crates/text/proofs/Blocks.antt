@@ -119,9 +119,9 @@ module _ (class : ℕ → Bool) (n k : ℕ) (bs : List ℕ) where
   pub passed_none : Passed 0
   passed_none = omega (arith, ap (λ (m : ℕ). m + run class (drop m bs)) (zero-mul n))
 
-  module _ (i : ℕ) (p : Passed i) {bytes : List ℕ} (is : bytes ≡ take n (drop (i * n) bs)) where
+  module _ (i : ℕ) (h : i < k) (p : Passed i) (none : List ℕ) {bytes : List ℕ} (is : bytes ≡ get_or parts i none) where
     in_part : run class bytes ≡ min n (run class (drop (i * n) bs))
-    in_part = ap (run class) is ∙ run_take class n (drop (i * n) bs)
+    in_part = ap (run class) (is ∙ part_at n k bs i none h) ∙ run_take class n (drop (i * n) bs)
 
     -- a part that the run fills
     pub passed_more : n ≤ run class bytes → Passed (i + 1)
@@ -147,8 +147,9 @@ module _ (class : ℕ → Bool) (n k : ℕ) (bs : List ℕ) where
   pub passed_before : (i : ℕ) → i ≤ k → i ≤ ending → Passed i
   passed_before zero h l = passed_none
   passed_before (suc i) h l =
-      let full = sym (not-not (leb n (run class (part i)))) ∙ prefix_len_passes (λ (b : List ℕ). not (ends_in b)) parts i [] (omega arith) in
-      rw (← add-one i) (passed_more i (passed_before i (omega arith) (omega arith)) (part_at n k bs i [] (omega arith)) (leb-true n (run class (part i)) full))
+      let full = prefix_len_passes (λ (b : List ℕ). not (ends_in b)) parts i [] (omega arith) in
+      let filled = leb-true n (run class (part i)) (sym (not-not (leb n (run class (part i)))) ∙ full) in
+      rw (← add-one i) (passed_more i (omega arith) (passed_before i (omega arith) (omega arith)) [] refl filled)
 
   module _ (found : Option ℕ) (e : found ≡ cond (ltb ending (length parts)) (Some ending) None) where
     -- the part that the search finds is the one in which the run ends
@@ -156,9 +157,10 @@ module _ (class : ℕ → Bool) (n k : ℕ) (bs : List ℕ) where
     ends_at i is =
         let s = cond_some (ltb ending (length parts)) ending i (sym e ∙ is) in
         let inside = ltb-true ending (length parts) s.0 in
-        let here : leb n (run class (part ending)) ≡ false = sym (not-not (leb n (run class (part ending)))) ∙ prefix_len_stops (λ (b : List ℕ). not (ends_in b)) parts [] inside in
         let below : ending < k = omega (arith, inside, length-parts n k bs) in
-        rw (← s.1) (passed_stop ending (passed_before ending (omega arith) (omega arith)) (part_at n k bs ending [] below) (leb-false n (run class (part ending)) here))
+        let here = prefix_len_stops (λ (b : List ℕ). not (ends_in b)) parts [] inside in
+        let ends = leb-false n (run class (part ending)) (sym (not-not (leb n (run class (part ending)))) ∙ here) in
+        rw (← s.1) (passed_stop ending below (passed_before ending (omega arith) (omega arith)) [] refl ends)
 
     -- and where it finds none, every part is passed
     pub passed_all : found ≡ None → Passed k

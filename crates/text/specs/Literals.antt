@@ -1,6 +1,7 @@
 -- Character and string literals: paper 01, "Character, string", which request A7 amends, and the order of faults inside one literal.
 -- Assumes nothing: these are definitions.
-use Rattle.std.specs.Prelude.{Bool, true, false, ◌&&◌, ◌||◌, cond, List, [], ◌∷◌, ℕ, zero, suc, ◌+◌, eqb, ltb, take, drop, length, Result, Ok, Err}
+use Rattle.std.specs.Prelude.{Bool, true, false, ◌&&◌, ◌||◌, cond, List, [], ◌∷◌, ℕ, zero, suc, ◌+◌, eqb, ltb, take, drop, length}
+use Rattle.std.specs.Prelude.{Result, Ok, Err}
 use Prim.Native.Char.{code}
 use Rattle.kinds.specs.Kinds as kinds
 use Rattle.text.specs.Bytes.{from, at, run, octal, hexadecimal, line_end, ended}

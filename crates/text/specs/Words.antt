@@ -1,6 +1,7 @@
 -- Words: paper 01, "Word", and request A3.
 -- Assumes nothing: these are definitions.
-use Rattle.std.specs.Prelude.{Bool, true, false, ◌&&◌, cond, List, [], ◌∷◌, ◌≡◌, ℕ, suc, ◌+◌, ◌<◌, eqb, ltb, length, take, drop, Result, Ok, Err}
+use Rattle.std.specs.Prelude.{Bool, true, false, ◌&&◌, cond, List, [], ◌∷◌, ◌≡◌, ℕ, suc, ◌+◌, ◌<◌, eqb, ltb, length, take, drop}
+use Rattle.std.specs.Prelude.{Result, Ok, Err}
 use Prim.Native.Char.{code}
 use Rattle.kinds.specs.Kinds.{first_keyword, keywords, nth_keyword, same, keyword, search_from, identifier}
 use Rattle.text.specs.Bytes.{from, run, wordly}

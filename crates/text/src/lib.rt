@@ -49,6 +49,7 @@ pub trait Class {
         ensures { result ≡ member byte };
 }
 
+// Both tests are made each time, as of `Ordinary`: by one `matches!` the compiler would take a block's bytes one by one.
 pub struct Space;
 
 impl Class for Space {
@@ -67,7 +68,7 @@ impl Class for Letter {
 
     #[tactic(auto, unfolding(crate::specs::Bytes::letter))]
     fn has(byte: u8) -> bool {
-        ((b'A' <= byte) & (byte <= b'Z')) | ((b'a' <= byte) & (byte <= b'z'))
+        byte.is_ascii_alphabetic()
     }
 }
 
@@ -78,7 +79,7 @@ impl Class for Digit {
 
     #[tactic(auto, unfolding(crate::specs::Bytes::digit))]
     fn has(byte: u8) -> bool {
-        (b'0' <= byte) & (byte <= b'9')
+        byte.is_ascii_digit()
     }
 }
 
@@ -89,7 +90,7 @@ impl Class for Octal {
 
     #[tactic(auto, unfolding(crate::specs::Bytes::octal))]
     fn has(byte: u8) -> bool {
-        (b'0' <= byte) & (byte <= b'7')
+        matches!(byte, b'0'..=b'7')
     }
 }
 
@@ -100,7 +101,7 @@ impl Class for Hexadecimal {
 
     #[tactic(auto, unfolding(crate::specs::Bytes::hexadecimal, crate::specs::Bytes::digit))]
     fn has(byte: u8) -> bool {
-        Digit::has(byte) | (((b'A' <= byte) & (byte <= b'F')) | ((b'a' <= byte) & (byte <= b'f')))
+        byte.is_ascii_hexdigit()
     }
 }
 
@@ -112,7 +113,7 @@ impl Class for Wordly {
 
     #[tactic(auto, unfolding(crate::specs::Bytes::wordly))]
     fn has(byte: u8) -> bool {
-        Letter::has(byte) | (Digit::has(byte) | (byte == b'_'))
+        byte.is_ascii_alphanumeric() | (byte == b'_')
     }
 }
 
@@ -124,7 +125,7 @@ impl Class for InLine {
 
     #[tactic(auto, unfolding(crate::specs::Bytes::in_line, crate::specs::Bytes::line_end))]
     fn has(byte: u8) -> bool {
-        !((byte == b'\n') | (byte == b'\r'))
+        !matches!(byte, b'\n' | b'\r')
     }
 }
 
@@ -148,7 +149,7 @@ impl Class for Plain {
 
     #[tactic(auto, unfolding(crate::specs::Literals::plain))]
     fn has(byte: u8) -> bool {
-        (b' ' <= byte) & (byte <= b'~')
+        matches!(byte, b' '..=b'~')
     }
 }
 

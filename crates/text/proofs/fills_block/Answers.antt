@@ -11,5 +11,7 @@ pub returns : goal.returns
 returns g c =
     let class = g.C.Class.member in
     let bytes = c.args.bytes.now in
-    let folded = fold_from_yields_List _ (λ (all : Bool) (b : ℕ). all && class b) true c.fold.result c.fold.ensures.ran (YieldsList-from_slice bytes cc) (λ a x b q k. search (rules, tests)) in
+    let both = λ (all : Bool) (b : ℕ). all && class b in
+    let folded =
+    fold_from_yields_List _ both true c.fold.result c.fold.ensures.ran (YieldsList-from_slice bytes cc) (λ a x b q k. search (rules, tests)) in
     folded ∙ fills class bytes ∙ ap (λ (n : ℕ). leb n (run class bytes)) (search rules)

@@ -13,7 +13,10 @@ returns-in-Some g c =
     let class = g.C.Class.member in
     let text = c.args.text.now in
     let k = length text / block in
-    let found = position_from_yields_List (ends_in class block k text) _ _ c.position.result c.position.ensures.ran (YieldsList-from_slice (first_chunks block k text) cc) (λ x b q k. search (rules, tests)) in
+    let parts = first_chunks block k text in
+    let ends = ends_in class block k text in
+    let found =
+    position_from_yields_List ends _ _ c.position.result c.position.ensures.ran (YieldsList-from_slice parts cc) (λ x b q k. search (rules, tests)) in
     let e = ends_at class block k text c.position.result found c.in-Some.full c.in-Some.is in
     rw (c.run_of.ensures, c.as_chunks.ensures.front) e
 
@@ -22,7 +25,10 @@ returns-in-None g c =
     let class = g.C.Class.member in
     let text = c.args.text.now in
     let k = length text / block in
-    let found = position_from_yields_List (ends_in class block k text) _ _ c.position.result c.position.ensures.ran (YieldsList-from_slice (first_chunks block k text) cc) (λ x b q k. search (rules, tests)) in
+    let parts = first_chunks block k text in
+    let ends = ends_in class block k text in
+    let found =
+    position_from_yields_List ends _ _ c.position.result c.position.ensures.ran (YieldsList-from_slice parts cc) (λ x b q k. search (rules, tests)) in
     let e = passed_all class block k text c.position.result found c.in-None.is in
     rw (c.run_of-in-None.ensures, c.as_chunks.ensures.back, c.as_chunks.ensures.front_len) (sym e)
 

@@ -23,5 +23,6 @@ pub overflow_add-result : goal.overflow_add-result
 overflow_add-result g c =
     let class = g.C.Class.member in
     let text = c.args.text.now in
-    let within : g.row.N + c.run_behind.result ≤ length text = omega (arith, c.run_behind.ensures, run_within class c.in-Some.behind.now, c.in-Some.ensures.cases.2) in
+    let within : g.row.N + c.run_behind.result ≤ length text =
+    omega (arith, c.run_behind.ensures, run_within class c.in-Some.behind.now, c.in-Some.ensures.cases.2) in
     search rules
