@@ -20,7 +20,6 @@ use Rattle.lexemes.proofs.lexeme.Goals as goal
 pub wide_or_word-requires : goal.wide_or_word-requires
 wide_or_word-requires c = (c.requires, seen c.args.bs.now c.requires letter c.has.ensures c.if-has.true)
 
-
 -- the first byte where it is neither a letter nor white space
 pub slash-requires : goal.slash-requires
 slash-requires c = sym (at_inside c.args.bs.now 0 c.requires) ∙ c.in-47.is
@@ -53,18 +52,15 @@ returns-then-starts_mark c =
     c.mark.ensures
     ∙ start_mark _ p (omega (arith, sym (at_inside c.args.bs.now 0 c.requires), (c.type_inv.bs 0).fits)) (seen c.args.bs.now c.requires starts_mark c.starts_mark.ensures c.if-starts_mark.true)
 
-
 pub returns-in-34 : goal.returns-in-34
 returns-in-34 c =
     let e = sym (at_inside c.args.bs.now 0 c.requires) in
-    c.literal.ensures
+    c.again.ensures ∙ c.literal.ensures
     ∙ quote_literal _ (⊎_elim (λ p. inl (e ∙ p)) (λ p. inr (e ∙ p)) c.in-34.is)
 
 pub returns-in-46 : goal.returns-in-46
 returns-in-46 c =
-    c.number.ensures ∙ point_number _ (sym (at_inside c.args.bs.now 0 c.requires) ∙ c.in-46.is)
-
-
+    c.again-in-46.ensures ∙ c.number.ensures ∙ point_number _ (sym (at_inside c.args.bs.now 0 c.requires) ∙ c.in-46.is)
 
 pub returns-in-47 : goal.returns-in-47
 returns-in-47 c = c.slash.ensures
@@ -80,7 +76,7 @@ pub returns-then-has-3 : goal.returns-then-has-3
 returns-then-has-3 c =
     let no_letter = seen c.args.bs.now c.requires letter c.has.ensures c.if-has.false in
     let p = plain c.args.bs.now c.requires no_letter (seen c.args.bs.now c.requires space c.has-2.ensures c.if-has-2.false) c.in_default.in_default-own.rest in
-    c.number-then-has-3.ensures ∙ digit_number _ p no_letter (seen c.args.bs.now c.requires digit c.has-in_default.ensures c.if-has-3.true)
+    c.again-then-has-3.ensures ∙ c.number-then-has-3.ensures ∙ digit_number _ p no_letter (seen c.args.bs.now c.requires digit c.has-in_default.ensures c.if-has-3.true)
 
 pub returns-else-has-3 : goal.returns-else-has-3
 returns-else-has-3 c =

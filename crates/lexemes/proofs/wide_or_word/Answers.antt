@@ -17,7 +17,7 @@ front bs h = sym (at_inside bs 0 h)
 
 pub returns-then-is_quote : goal.returns-then-is_quote
 returns-then-is_quote c =
-    c.wide_literal.ensures
+    c.again.ensures ∙ c.wide_literal.ensures
     ∙ wide_quote _ (front c.args.bs.now c.requires.0 ∙ c.if-bs-eq76.true)
     (ap quote (sym c.byte_at.ensures) ∙ sym c.is_quote.ensures ∙ c.if-is_quote.true)
 
