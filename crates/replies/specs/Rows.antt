@@ -2,7 +2,8 @@
 use Rattle.std.specs.Prelude.{ℕ}
 use Rattle.replies.specs.Replies.{accepted_number}
 use Rattle.replies.specs.declared.Row.{Row}
-use Rattle.replies.specs.declared.Row.TheVariants.{Accepted, OutsideLimits, NoLexeme, LeftOpen, BadLiteral, OtherCase, MoreTokens, Grammar, TooDeep, MoreRecords}
+use Rattle.replies.specs.declared.Row.TheVariants.{Accepted, OutsideLimits, NoLexeme, LeftOpen, BadLiteral}
+use Rattle.replies.specs.declared.Row.TheVariants.{OtherCase, MoreTokens, Grammar, TooDeep, MoreRecords}
 
 abbrev pub number : Row → ℕ
 number Accepted = accepted_number

@@ -41,7 +41,8 @@ module _ (text : List ℕ) where
         omega (arith, h, length-drop (place + n) text, length-drop place text) in
         subst (λ (to : ℕ). Ordered (place + n) to (rest n)) e (more n)
 
-    one_lexeme : (l : Result Lexeme declared.Fault) → SizedOr (CaseAlone (spelled (drop place text))) (length (drop place text)) l → Rest place (then l place rest)
+    one_lexeme : (l : Result Lexeme declared.Fault) → SizedOr (CaseAlone (spelled (drop place text))) (length (drop place text)) l →
+        Rest place (then l place rest)
     unfolding then
     one_lexeme (Ok (Blank n)) w = sooner (omega arith) (after n w.1)
     one_lexeme (Ok (Token kind n)) w = one_more kind w.0 (after n w.1)
