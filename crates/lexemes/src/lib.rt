@@ -10,7 +10,7 @@ ghost use Rattle.text.specs.Lexemes as lexemes;
 ghost use Rattle.text.specs.Literals.{quote};
 
 use blanks::{block_comment, line_comment};
-use kinds::kind;
+use kinds::Kind;
 use literals::{literal, wide_literal};
 use marks::{mark, starts_mark};
 use numbers::number;
@@ -32,7 +32,7 @@ fn slash(bs: &[u8]) -> Result<Lexeme, Fault>
     match text::byte_at(bs, 1) {
         Some(b'/') => line_comment(bs),
         Some(b'*') => block_comment(bs),
-        _ => Ok(Lexeme::Token(kind::SLASH, 1)),
+        _ => Ok(Lexeme::Token(Kind::SLASH, 1)),
     }
 }
 

@@ -8,7 +8,7 @@ ghost use Rattle.text.specs.Literals as literals;
 ghost use Rattle.text.specs.Found.{found};
 ghost use Rattle.literals.specs.Widths.{is_wide};
 
-use kinds::kind;
+use kinds::Kind;
 use text::{Class, Fault, Hexadecimal, Lexeme, Octal, Piece, Plain};
 
 // Whether an L stands directly before a literal.
@@ -31,21 +31,21 @@ impl Width {
         }
     }
 
-    fn character_kind(self) -> u32
+    fn character_kind(self) -> Kind
         ensures { result ≡ literals.character_kind (is_wide self) }
     {
         match self {
-            Width::Narrow => kind::CHARACTER,
-            Width::Wide => kind::WIDE_CHARACTER,
+            Width::Narrow => Kind::CHARACTER,
+            Width::Wide => Kind::WIDE_CHARACTER,
         }
     }
 
-    fn string_kind(self) -> u32
+    fn string_kind(self) -> Kind
         ensures { result ≡ literals.string_kind (is_wide self) }
     {
         match self {
-            Width::Narrow => kind::STRING_LITERAL,
-            Width::Wide => kind::WIDE_STRING_LITERAL,
+            Width::Narrow => Kind::STRING_LITERAL,
+            Width::Wide => Kind::WIDE_STRING_LITERAL,
         }
     }
 }

@@ -6,7 +6,7 @@ ghost use Rattle.marks.specs.Starts.{kind_of, starts_mark};
 ghost use Rattle.text.specs.Bytes.{at};
 ghost use Rattle.text.specs.Lexemes as lexemes;
 
-use kinds::kind;
+use kinds::Kind;
 use text::{Fault, Lexeme};
 
 // Whether a mark starts with this byte. By comparisons, which the compiler takes together: a match on ranges takes half as many
@@ -26,52 +26,52 @@ pub fn starts_mark(byte: u8) -> bool
 // The kind of the mark that is this byte. The marks stand in four dense ranges of bytes, chosen first: each match is then a small
 // table, where one for all of them is a jump.
 #[tactic(auto, unfolding(kinds::specs::Kinds::mark))]
-fn one_byte(byte: u8) -> Option<u32>
+fn one_byte(byte: u8) -> Option<Kind>
     ensures { result ≡ kind_of (byte ∷ []) }
 {
     if byte <= b'/' {
         return match byte {
-            b'%' => Some(kind::PERCENT),
-            b'&' => Some(kind::AMPERSAND),
-            b'(' => Some(kind::OPEN_PARENTHESIS),
-            b')' => Some(kind::CLOSE_PARENTHESIS),
-            b'*' => Some(kind::STAR),
-            b'+' => Some(kind::PLUS),
-            b',' => Some(kind::COMMA),
-            b'-' => Some(kind::MINUS),
-            b'/' => Some(kind::SLASH),
+            b'%' => Some(Kind::PERCENT),
+            b'&' => Some(Kind::AMPERSAND),
+            b'(' => Some(Kind::OPEN_PARENTHESIS),
+            b')' => Some(Kind::CLOSE_PARENTHESIS),
+            b'*' => Some(Kind::STAR),
+            b'+' => Some(Kind::PLUS),
+            b',' => Some(Kind::COMMA),
+            b'-' => Some(Kind::MINUS),
+            b'/' => Some(Kind::SLASH),
             _ => None,
         };
     }
     if byte <= b'>' {
         return match byte {
-            b':' => Some(kind::COLON),
-            b';' => Some(kind::SEMICOLON),
-            b'<' => Some(kind::OPEN_ANGLE),
-            b'=' => Some(kind::EQUALS),
-            b'>' => Some(kind::CLOSE_ANGLE),
+            b':' => Some(Kind::COLON),
+            b';' => Some(Kind::SEMICOLON),
+            b'<' => Some(Kind::OPEN_ANGLE),
+            b'=' => Some(Kind::EQUALS),
+            b'>' => Some(Kind::CLOSE_ANGLE),
             _ => None,
         };
     }
     if byte <= b'^' {
         return match byte {
-            b'[' => Some(kind::OPEN_BRACKET),
-            b']' => Some(kind::CLOSE_BRACKET),
-            b'^' => Some(kind::CARET),
+            b'[' => Some(Kind::OPEN_BRACKET),
+            b']' => Some(Kind::CLOSE_BRACKET),
+            b'^' => Some(Kind::CARET),
             _ => None,
         };
     }
     match byte {
-        b'{' => Some(kind::OPEN_BRACE),
-        b'|' => Some(kind::BAR),
-        b'}' => Some(kind::CLOSE_BRACE),
-        b'~' => Some(kind::TILDE),
+        b'{' => Some(Kind::OPEN_BRACE),
+        b'|' => Some(Kind::BAR),
+        b'}' => Some(Kind::CLOSE_BRACE),
+        b'~' => Some(Kind::TILDE),
         _ => None,
     }
 }
 
 // The kind of the mark that is the first two bytes. Such a mark is one byte twice.
-fn two_bytes(bs: &[u8]) -> Option<u32>
+fn two_bytes(bs: &[u8]) -> Option<Kind>
     ensures { result ≡ kind_of (at bs.now 0 ∷ at bs.now 1 ∷ []) }
 {
     if bs.len() < 2 {
@@ -82,9 +82,9 @@ fn two_bytes(bs: &[u8]) -> Option<u32>
         return None;
     }
     match first {
-        b':' => Some(kind::SCOPE),
-        b'<' => Some(kind::SHIFT_LEFT),
-        b'>' => Some(kind::SHIFT_RIGHT),
+        b':' => Some(Kind::SCOPE),
+        b'<' => Some(Kind::SHIFT_LEFT),
+        b'>' => Some(Kind::SHIFT_RIGHT),
         _ => None,
     }
 }

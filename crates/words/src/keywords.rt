@@ -9,7 +9,7 @@ ghost use Rattle.words.specs.Comparison.{likeness};
 ghost use Rattle.words.specs.Table.{row_count, letter_count, place_of, spelling, First};
 
 use crate::comparison::{Likeness, likeness_of};
-use kinds::kind;
+use kinds::Kind;
 
 // The rows of the table.
 const ROWS: usize = 48;
@@ -31,59 +31,59 @@ const NONE: u8 = ROWS as u8;
 
 // A keyword: its kind, its spelling, filled up with spaces, and the next row with the same length and, case aside, the same first
 // letter.
-struct Keyword(u32, [u8; LONGEST], u8);
+struct Keyword(Kind, [u8; LONGEST], u8);
 
 // First the keywords that the data-only edition has, too, then the others, both in byte order, so that the keywords of an edition
 // are the first rows.
 static KEYWORDS: [Keyword; ROWS] = [
-    Keyword(kind::FALSE, *b"FALSE      ", 9),
-    Keyword(kind::TRUE, *b"TRUE       ", NONE),
-    Keyword(kind::BOOLEAN, *b"boolean    ", NONE),
-    Keyword(kind::CASE, *b"case       ", 4),
-    Keyword(kind::CHAR, *b"char       ", NONE),
-    Keyword(kind::CONST, *b"const      ", NONE),
-    Keyword(kind::DEFAULT, *b"default    ", NONE),
-    Keyword(kind::DOUBLE, *b"double     ", NONE),
-    Keyword(kind::ENUM, *b"enum       ", NONE),
-    Keyword(kind::FIXED, *b"fixed      ", 10),
-    Keyword(kind::FLOAT, *b"float      ", NONE),
-    Keyword(kind::LONG, *b"long       ", NONE),
-    Keyword(kind::MODULE, *b"module     ", NONE),
-    Keyword(kind::NATIVE, *b"native     ", NONE),
-    Keyword(kind::OCTET, *b"octet      ", NONE),
-    Keyword(kind::SEQUENCE, *b"sequence   ", 44),
-    Keyword(kind::SHORT, *b"short      ", NONE),
-    Keyword(kind::STRING, *b"string     ", 18),
-    Keyword(kind::STRUCT, *b"struct     ", 19),
-    Keyword(kind::SWITCH, *b"switch     ", NONE),
-    Keyword(kind::TYPEDEF, *b"typedef    ", NONE),
-    Keyword(kind::UNION, *b"union      ", NONE),
-    Keyword(kind::UNSIGNED, *b"unsigned   ", NONE),
-    Keyword(kind::WCHAR, *b"wchar      ", NONE),
-    Keyword(kind::WSTRING, *b"wstring    ", NONE),
-    Keyword(kind::OBJECT, *b"Object     ", 38),
-    Keyword(kind::VALUE_BASE, *b"ValueBase  ", 46),
-    Keyword(kind::ABSTRACT, *b"abstract   ", NONE),
-    Keyword(kind::ANY, *b"any        ", NONE),
-    Keyword(kind::ATTRIBUTE, *b"attribute  ", NONE),
-    Keyword(kind::CONTEXT, *b"context    ", NONE),
-    Keyword(kind::CUSTOM, *b"custom     ", NONE),
-    Keyword(kind::EXCEPTION, *b"exception  ", NONE),
-    Keyword(kind::FACTORY, *b"factory    ", NONE),
-    Keyword(kind::IN, *b"in         ", NONE),
-    Keyword(kind::INOUT, *b"inout      ", NONE),
-    Keyword(kind::INTERFACE, *b"interface  ", NONE),
-    Keyword(kind::LOCAL, *b"local      ", NONE),
-    Keyword(kind::ONEWAY, *b"oneway     ", NONE),
-    Keyword(kind::OUT, *b"out        ", NONE),
-    Keyword(kind::PRIVATE, *b"private    ", NONE),
-    Keyword(kind::PUBLIC, *b"public     ", NONE),
-    Keyword(kind::RAISES, *b"raises     ", NONE),
-    Keyword(kind::READONLY, *b"readonly   ", NONE),
-    Keyword(kind::SUPPORTS, *b"supports   ", NONE),
-    Keyword(kind::TRUNCATABLE, *b"truncatable", NONE),
-    Keyword(kind::VALUETYPE, *b"valuetype  ", NONE),
-    Keyword(kind::VOID, *b"void       ", NONE),
+    Keyword(Kind::FALSE, *b"FALSE      ", 9),
+    Keyword(Kind::TRUE, *b"TRUE       ", NONE),
+    Keyword(Kind::BOOLEAN, *b"boolean    ", NONE),
+    Keyword(Kind::CASE, *b"case       ", 4),
+    Keyword(Kind::CHAR, *b"char       ", NONE),
+    Keyword(Kind::CONST, *b"const      ", NONE),
+    Keyword(Kind::DEFAULT, *b"default    ", NONE),
+    Keyword(Kind::DOUBLE, *b"double     ", NONE),
+    Keyword(Kind::ENUM, *b"enum       ", NONE),
+    Keyword(Kind::FIXED, *b"fixed      ", 10),
+    Keyword(Kind::FLOAT, *b"float      ", NONE),
+    Keyword(Kind::LONG, *b"long       ", NONE),
+    Keyword(Kind::MODULE, *b"module     ", NONE),
+    Keyword(Kind::NATIVE, *b"native     ", NONE),
+    Keyword(Kind::OCTET, *b"octet      ", NONE),
+    Keyword(Kind::SEQUENCE, *b"sequence   ", 44),
+    Keyword(Kind::SHORT, *b"short      ", NONE),
+    Keyword(Kind::STRING, *b"string     ", 18),
+    Keyword(Kind::STRUCT, *b"struct     ", 19),
+    Keyword(Kind::SWITCH, *b"switch     ", NONE),
+    Keyword(Kind::TYPEDEF, *b"typedef    ", NONE),
+    Keyword(Kind::UNION, *b"union      ", NONE),
+    Keyword(Kind::UNSIGNED, *b"unsigned   ", NONE),
+    Keyword(Kind::WCHAR, *b"wchar      ", NONE),
+    Keyword(Kind::WSTRING, *b"wstring    ", NONE),
+    Keyword(Kind::OBJECT, *b"Object     ", 38),
+    Keyword(Kind::VALUE_BASE, *b"ValueBase  ", 46),
+    Keyword(Kind::ABSTRACT, *b"abstract   ", NONE),
+    Keyword(Kind::ANY, *b"any        ", NONE),
+    Keyword(Kind::ATTRIBUTE, *b"attribute  ", NONE),
+    Keyword(Kind::CONTEXT, *b"context    ", NONE),
+    Keyword(Kind::CUSTOM, *b"custom     ", NONE),
+    Keyword(Kind::EXCEPTION, *b"exception  ", NONE),
+    Keyword(Kind::FACTORY, *b"factory    ", NONE),
+    Keyword(Kind::IN, *b"in         ", NONE),
+    Keyword(Kind::INOUT, *b"inout      ", NONE),
+    Keyword(Kind::INTERFACE, *b"interface  ", NONE),
+    Keyword(Kind::LOCAL, *b"local      ", NONE),
+    Keyword(Kind::ONEWAY, *b"oneway     ", NONE),
+    Keyword(Kind::OUT, *b"out        ", NONE),
+    Keyword(Kind::PRIVATE, *b"private    ", NONE),
+    Keyword(Kind::PUBLIC, *b"public     ", NONE),
+    Keyword(Kind::RAISES, *b"raises     ", NONE),
+    Keyword(Kind::READONLY, *b"readonly   ", NONE),
+    Keyword(Kind::SUPPORTS, *b"supports   ", NONE),
+    Keyword(Kind::TRUNCATABLE, *b"truncatable", NONE),
+    Keyword(Kind::VALUETYPE, *b"valuetype  ", NONE),
+    Keyword(Kind::VOID, *b"void       ", NONE),
 ];
 
 // For each letter, a line each, and each length of a keyword the first row that has them.
@@ -172,7 +172,7 @@ impl Row {
     }
 
     // The kind of the keyword.
-    pub fn kind(self) -> u32
+    pub fn kind(self) -> Kind
         ensures { result ≡ keyword (spelling self.number) }
     {
         KEYWORDS[self.number].0
