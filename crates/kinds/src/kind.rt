@@ -6,7 +6,7 @@ use std::marker::Model;
 
 // A kind of token, by its number in a token table. It is no enum: a lent table may have any number where a kind stands.
 #[derive(Clone, Copy, PartialEq, Eq, PartialOrd, Ord)]
-pub struct Kind(u32);
+pub struct Kind(pub u32);
 
 impl Model for Kind {
     ghost Value = { ℕ };
