@@ -4,14 +4,14 @@
 ghost use Rattle.std.specs.Prelude.{◌≡◌, ◌≤◌, length};
 ghost use Rattle.text.specs.Blanks.{line_comment, block_comment, to_close};
 
-use text::Lexeme;
+use text::{Fault, Lexeme};
 
 // From // to byte 10, byte 13 or the end of the text.
-pub fn line_comment(bs: &[u8]) -> Lexeme
+pub fn line_comment(bs: &[u8]) -> Result<Lexeme, Fault>
     requires { 2 ≤ length bs.now }
     ensures { result ≡ line_comment bs.now }
 {
-    Lexeme::Blank(2 + text::line_run(&bs[2..]))
+    Ok(Lexeme::Blank(2 + text::line_run(&bs[2..])))
 }
 
 // How many bytes there are to the end of the next */; 0 where there is none. From a star that closes nothing it goes on to
@@ -33,14 +33,14 @@ fn to_close(bs: &[u8]) -> usize
 }
 
 // From /* to the next */, or open at the end of the text.
-pub fn block_comment(bs: &[u8]) -> Lexeme
+pub fn block_comment(bs: &[u8]) -> Result<Lexeme, Fault>
     requires { 2 ≤ length bs.now }
     ensures { result ≡ block_comment bs.now }
 {
     let size = to_close(&bs[2..]);
     if size == 0 {
-        Lexeme::Open
+        Err(Fault::Open)
     } else {
-        Lexeme::Blank(2 + size)
+        Ok(Lexeme::Blank(2 + size))
     }
 }

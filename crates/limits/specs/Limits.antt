@@ -1,8 +1,7 @@
 -- What a good call is: paper 01, "A good call is one that reply 1 does not answer", and the ceilings that it names.
 -- Assumes nothing: these are definitions.
-use Rattle.std.specs.Prelude.{Bool, ◌&&◌, cond, ℕ, leb}
-use Rattle.limits.specs.declared.Bounded.{Bounded}
-use Rattle.limits.specs.declared.Bounded.TheVariants.{Good, Beyond}
+use Rattle.std.specs.Prelude.{Bool, ◌&&◌, cond, ℕ, leb, Option, Some, None}
+use Rattle.limits.specs.declared.Limits.{Limits}
 
 -- "Text: at most 1,048,576 bytes."
 abbrev pub text_ceiling : ℕ
@@ -25,5 +24,5 @@ abbrev pub good_call : (n d : ℕ) → Bool
 good_call n d = good_text n && good_depth d
 
 -- the limits of a good call
-abbrev pub bounded : (n d : ℕ) → Bounded
-bounded n d = cond (good_call n d) (Good (record { text = n; depth = d })) Beyond
+abbrev pub bounded : (n d : ℕ) → Option Limits
+bounded n d = cond (good_call n d) (Some (record { text = n; depth = d })) None

@@ -5,16 +5,10 @@ ghost use Rattle.std.specs.Prelude.{◌≡◌};
 ghost use Rattle.limits.specs.Limits.{good_text, bounded};
 
 // The limits of a good call: the length of its text in bytes, and its depth setting.
-#[derive(Drop)]
+#[derive(Clone, Copy, PartialEq, Eq, Debug)]
 pub struct Limits {
     pub text: usize,
     pub depth: u32,
-}
-
-#[derive(Drop)]
-pub enum Bounded {
-    Good(Limits),
-    Beyond,
 }
 
 impl Limits {
@@ -30,18 +24,10 @@ impl Limits {
     }
 
     // The limits of a call, where both are within their ceilings.
-    pub fn new(text: usize, depth: u32) -> Bounded
+    pub fn new(text: usize, depth: u32) -> Option<Limits>
         ensures { result ≡ bounded text depth }
     {
-        if !Limits::takes(text) {
-            return Bounded::Beyond;
-        }
-        if depth == 0 {
-            return Bounded::Beyond;
-        }
-        if Limits::DEPTH < depth {
-            return Bounded::Beyond;
-        }
-        Bounded::Good(Limits { text, depth })
+        let is_good = Limits::takes(text) && (1..=Limits::DEPTH).contains(&depth);
+        is_good.then_some(Limits { text, depth })
     }
 }

@@ -15,57 +15,66 @@ use Rattle.text.specs.Bytes.{end, at}
 use Rattle.text.specs.Literals.{plain, piece, character_kind, string_kind, after_character, closing, one_character, character}
 use Rattle.text.specs.Literals.{string_piece, string_in, string, quote, quoted, literal, wide_literal}
 use Rattle.text.specs.declared.Lexeme.{Lexeme}
-use Rattle.text.specs.declared.Lexeme.TheVariants.{Token, NoLexeme, Open, BadLiteral}
+use Rattle.text.specs.declared.Lexeme.TheVariants.{Token}
+use Rattle.text.specs.declared.Fault.{Fault}
+use Rattle.text.specs.declared.Fault.TheVariants.{NoLexeme, Open, BadLiteral, OtherCase}
 use Rattle.text.specs.declared.Piece.{Piece}
-use Rattle.text.specs.declared.Piece.TheVariants.{Character, Zero, Close, Unclosed, Bad}
+use Rattle.text.specs.declared.Piece.TheVariants.{Character, Zero, Close}
+use Rattle.std.specs.Prelude.{Result, Ok, Err}
 use Rattle.text.proofs.Sizes.{Sized}
 use Rattle.literals.proofs.Taken.{Taken, taken_one, taken_within, LeftOpen, Stands, piece_stands}
 
 -- `Read` holds of each place that is read to, `Says` of what the literal is where it ends
-module _ (bs : List ℕ) (Read : ℕ → Type 0) (Says : Lexeme → Type 0)
+module _ (bs : List ℕ) (Read : ℕ → Type 0) (Says : Result Lexeme Fault → Type 0)
     (within : (n : ℕ) → Read n → n ≤ length bs)
     (further : (n m : ℕ) → Read n → Taken (drop n bs) m → Read (n + m))
-    (closed : (kind n : ℕ) → Read (n + 1) → Says (Token kind (n + 1)))
-    (left_open : (n : ℕ) → Read n → LeftOpen (drop n bs) → Says Open)
-    (bad : Says BadLiteral) where
+    (closed : (kind n : ℕ) → Read (n + 1) → Says (Ok (Token kind (n + 1))))
+    (left_open : (n : ℕ) → Read n → LeftOpen (drop n bs) → Says (Err Open))
+    (bad : Says (Err BadLiteral)) where
   past_quote : (q n : ℕ) → plain q ≡ true → Read n → at (drop n bs) 0 ≡ q → Read (n + 1)
   past_quote q n p h e = further n 1 h (taken_one (drop n bs) (ap plain e ∙ p))
 
-  after_character_says : (kind n : ℕ) (p : Piece) → Read n → Stands (code "'") (drop n bs) p → Says (after_character kind n p)
+  after_character_says : (kind n : ℕ) (p : Result Piece Fault) → Read n → Stands (code "'") (drop n bs) p → Says (after_character kind n p)
   unfolding after_character plain
-  after_character_says kind n Close h s = closed kind n (past_quote (code "'") n refl h s)
-  after_character_says kind n Unclosed h s = left_open n h s
-  after_character_says kind n (Character m) h s = bad
-  after_character_says kind n (Zero m) h s = bad
-  after_character_says kind n Bad h s = bad
+  after_character_says kind n (Ok Close) h s = closed kind n (past_quote (code "'") n refl h s)
+  after_character_says kind n (Err NoLexeme) h s = absurd s
+  after_character_says kind n (Err Open) h s = left_open n h s
+  after_character_says kind n (Ok (Character m)) h s = bad
+  after_character_says kind n (Ok (Zero m)) h s = bad
+  after_character_says kind n (Err BadLiteral) h s = bad
+  after_character_says given n (Err (OtherCase kind)) h s = absurd s
 
   closing_says : (wide : Bool) (n : ℕ) → Read n → Says (closing wide n bs)
   unfolding closing
   closing_says wide n h =
       after_character_says (character_kind wide) n (piece wide (code "'") (drop n bs)) h (piece_stands (code "'") (drop n bs) wide)
 
-  one_character_says : (wide : Bool) (n : ℕ) (p : Piece) → Read n → Stands (code "'") (drop n bs) p →
+  one_character_says : (wide : Bool) (n : ℕ) (p : Result Piece Fault) → Read n → Stands (code "'") (drop n bs) p →
       Says (one_character (λ m. closing wide (n + m) bs) p)
   unfolding one_character
-  one_character_says wide n Close h s = bad
-  one_character_says wide n Unclosed h s = left_open n h s
-  one_character_says wide n (Character m) h s = closing_says wide (n + m) (further n m h s.1)
-  one_character_says wide n (Zero m) h s = closing_says wide (n + m) (further n m h s.1)
-  one_character_says wide n Bad h s = bad
+  one_character_says wide n (Ok Close) h s = bad
+  one_character_says wide n (Err NoLexeme) h s = absurd s
+  one_character_says wide n (Err Open) h s = left_open n h s
+  one_character_says wide n (Ok (Character m)) h s = closing_says wide (n + m) (further n m h s.1)
+  one_character_says wide n (Ok (Zero m)) h s = closing_says wide (n + m) (further n m h s.1)
+  one_character_says wide n (Err BadLiteral) h s = bad
+  one_character_says wide n (Err (OtherCase kind)) h s = absurd s
 
   character_says : (wide : Bool) (n : ℕ) → Read n → Says (character wide n bs)
   unfolding character
   character_says wide n h =
       one_character_says wide n (piece wide (code "'") (drop n bs)) h (piece_stands (code "'") (drop n bs) wide)
 
-  string_piece_says : (kind n : ℕ) (more : ℕ → Lexeme) (p : Piece) → Read n → Stands (code "\"") (drop n bs) p →
+  string_piece_says : (kind n : ℕ) (more : ℕ → Result Lexeme Fault) (p : Result Piece Fault) → Read n → Stands (code "\"") (drop n bs) p →
       ((m : ℕ) → 0 < m → Read (n + m) → Says (more m)) → Says (string_piece (Token kind (n + 1)) more p)
   unfolding string_piece plain
-  string_piece_says kind n more Close h s on = closed kind n (past_quote (code "\"") n refl h s)
-  string_piece_says kind n more Unclosed h s on = left_open n h s
-  string_piece_says kind n more (Character m) h s on = on m s.0 (further n m h s.1)
-  string_piece_says kind n more (Zero m) h s on = bad
-  string_piece_says kind n more Bad h s on = bad
+  string_piece_says kind n more (Ok Close) h s on = closed kind n (past_quote (code "\"") n refl h s)
+  string_piece_says kind n more (Err NoLexeme) h s on = absurd s
+  string_piece_says kind n more (Err Open) h s on = left_open n h s
+  string_piece_says kind n more (Ok (Character m)) h s on = on m s.0 (further n m h s.1)
+  string_piece_says kind n more (Ok (Zero m)) h s on = bad
+  string_piece_says kind n more (Err BadLiteral) h s on = bad
+  string_piece_says given n more (Err (OtherCase kind)) h s on = absurd s
 
   string_says : (steps : ℕ) (wide : Bool) (n : ℕ) → length bs < steps + n → Read n → Says (string_in steps wide n bs)
   unfolding string_in
@@ -83,7 +92,7 @@ module _ (bs : List ℕ) (Read : ℕ → Type 0) (Says : Lexeme → Type 0)
       opened q p e = past_quote q n p h (get_or-drop n bs 0 end ∙ ap (at bs) (add-zero n) ∙ eqb-true (at bs n) q e)
 
       go : (x y : Bool) → eqb (at bs n) (code "'") ≡ x → eqb (at bs n) (code "\"") ≡ y → x || y ≡ true →
-          Says (cond x (character wide (n + 1) bs) (cond y (string wide (n + 1) bs) NoLexeme))
+          Says (cond x (character wide (n + 1) bs) (cond y (string wide (n + 1) bs) (Err NoLexeme)))
       go true y e f t = character_says wide (n + 1) (opened (code "'") refl e)
       go false true e f t = string_says (suc (length bs)) wide (n + 1) (omega arith) (opened (code "\"") refl f)
       go false false e f t = absurd (false≢true t)

@@ -8,7 +8,7 @@ use Prim.Native.Nat.{ℕ, zero, suc, ◌+◌, ◌-◌, ◌≤◌, ◌<◌}
 use native.Mathlib.Omega.{arith}
 use borrow.Author.Tests.{ltb-true, ltb-false, leb-true, leb-false, le-leb, eqb-true}
 use lib.Dec.{eqb, leb, ltb}
-use lib.ListN.{length, take, drop, length-take}
+use lib.ListN.{length, take, drop, length-take, length-drop}
 use lib.Seq.{get_or-drop, drop-drop}
 use Rattle.text.specs.Bytes.{from, end, at, run, octal, hexadecimal, line_end, ended}
 use Rattle.text.specs.Literals.{plain, simple, digits, zeros, numbered, above_377, no_character}
@@ -16,8 +16,11 @@ use Rattle.text.specs.Literals.{octal_escape, hexadecimal_digits, hexadecimal_es
 use Rattle.text.proofs.Choices.{both, either, choose}
 use Rattle.text.proofs.Rests.{past_end}
 use Rattle.text.proofs.Runs.{run_within}
+use Rattle.std.specs.Prelude.{Result, Ok, Err}
+use Rattle.text.specs.declared.Fault.{Fault}
+use Rattle.text.specs.declared.Fault.TheVariants.{NoLexeme, Open, BadLiteral, OtherCase}
 use Rattle.text.specs.declared.Piece.{Piece}
-use Rattle.text.specs.declared.Piece.TheVariants.{Character, Zero, Close, Unclosed, Bad}
+use Rattle.text.specs.declared.Piece.TheVariants.{Character, Zero, Close}
 
 pub digits_le : (class : ℕ → Bool) (most : ℕ) (bs : List ℕ) → digits class most bs ≤ length bs
 unfolding digits
@@ -121,28 +124,30 @@ pub record LeftOpen (bs : List ℕ) : Type 0 where
   pub stops : line_end (at bs place) || ended (at bs place) ≡ true
 
 -- what stands where a piece does, in a literal with this closing quote
-abbrev pub Stands : ℕ → List ℕ → Piece → Type 0
-Stands quote bs (Character m) = (0 < m) × Taken bs m
-Stands quote bs (Zero m) = (0 < m) × Taken bs m
-Stands quote bs Close = at bs 0 ≡ quote
-Stands quote bs Unclosed = LeftOpen bs
-Stands quote bs Bad = Unit
+abbrev pub Stands : ℕ → List ℕ → Result Piece Fault → Type 0
+Stands quote bs (Ok (Character m)) = (0 < m) × Taken bs m
+Stands quote bs (Ok (Zero m)) = (0 < m) × Taken bs m
+Stands quote bs (Ok Close) = at bs 0 ≡ quote
+Stands quote bs (Err NoLexeme) = ⊥
+Stands quote bs (Err Open) = LeftOpen bs
+Stands quote bs (Err BadLiteral) = Unit
+Stands quote bs (Err (OtherCase kind)) = ⊥
 
 module _ (quote : ℕ) (bs : List ℕ) where
-  abbrev Here : Piece → Type 0
+  abbrev Here : Result Piece Fault → Type 0
   Here = Stands quote bs
 
   no_character_stands : (n : ℕ) → Taken bs n → {b : ℕ} → at bs n ≡ b → Here (no_character b)
   unfolding no_character
   no_character_stands n h {b} e =
-      choose Here (line_end b || ended b) (λ stops. record { place = n; before = h; stops = rw e stops }) tt
+      choose (λ fault. Here (Err fault)) (line_end b || ended b) (λ stops. record { place = n; before = h; stops = rw e stops }) tt
 
   -- so many bytes, and at most so many digits behind them
-  numbered_stands : (front n : ℕ) (ds : List ℕ) → 0 < front → Taken bs (front + n) → Here (numbered front (take n ds))
+  numbered_stands : (front n : ℕ) (ds : List ℕ) → 0 < front → Taken bs (front + n) → Here (Ok (numbered front (take n ds)))
   unfolding numbered
   numbered_stands front n ds l h =
       let taken : Taken bs (front + length (take n ds)) = taken_fewer bs (omega (arith, length-take n ds)) h in
-      choose Here (zeros (take n ds)) (λ e. (omega arith, taken)) (omega arith, taken)
+      choose (λ piece. Here (Ok piece)) (zeros (take n ds)) (λ e. (omega arith, taken)) (omega arith, taken)
 
   -- a backslash, and what stands behind it
   module _ (backslash : Taken bs 1) where
@@ -186,3 +191,16 @@ module _ (quote : ℕ) (bs : List ℕ) where
       choose Here (eqb b quote) (λ e. eqb-true b quote e)
       (choose Here (eqb b (code "\\")) (λ e. escape_stands (taken_one bs (is b (code "\\") refl e)) wide)
       (choose Here (plain b) (λ e. (omega arith, taken_one bs e)) (no_character_stands 0 (taken_none bs) refl)))
+
+-- a character stands in the text
+pub character_within : (wide : Bool) (quote n : ℕ) (bs : List ℕ) {m : ℕ} → n ≤ length bs → piece wide quote (drop n bs) ≡ Ok (Character m) →
+    (0 < m) × (n + m ≤ length bs)
+character_within wide quote n bs {m} h e =
+    let s : Stands quote (drop n bs) (Ok (Character m)) = subst (Stands quote (drop n bs)) e (piece_stands quote (drop n bs) wide) in
+    (s.0, omega (arith, taken_within (drop n bs) m s.1, length-drop n bs))
+
+pub zero_within : (wide : Bool) (quote n : ℕ) (bs : List ℕ) {m : ℕ} → n ≤ length bs → piece wide quote (drop n bs) ≡ Ok (Zero m) →
+    (0 < m) × (n + m ≤ length bs)
+zero_within wide quote n bs {m} h e =
+    let s : Stands quote (drop n bs) (Ok (Zero m)) = subst (Stands quote (drop n bs)) e (piece_stands quote (drop n bs) wide) in
+    (s.0, omega (arith, taken_within (drop n bs) m s.1, length-drop n bs))

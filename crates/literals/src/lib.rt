@@ -1,75 +1,96 @@
 // Character and string literals: paper 01, "Character, string". A literal is read from the rest of the text that starts with it.
 #![tactic(auto)]
 
-ghost use Rattle.std.specs.Prelude.{cond, ◌≡◌, ◌≤◌, length};
+ghost use Rattle.std.specs.Prelude.{Err, ◌≡◌, ◌≤◌, length, take};
 ghost use Rattle.text.specs.Bytes.{at};
-ghost use Rattle.text.specs.Classes.{member};
-ghost use Rattle.text.specs.Literals.{simple, no_character, digits, zeros, numbered, above_377};
-ghost use Rattle.text.specs.Literals.{octal_escape, hexadecimal_escape, hexadecimal_digits, escape, piece};
-ghost use Rattle.text.specs.Literals.{closing, character, string, quoted, literal, wide_literal};
+ghost use Rattle.text.specs.Literals as literals;
+ghost use Rattle.text.specs.Found.{found};
+ghost use Rattle.literals.specs.Widths.{is_wide};
 
 use kinds::kind;
-use text::{Class, Lexeme, Piece};
+use text::{Class, Fault, Hexadecimal, Lexeme, Octal, Piece, Plain};
+
+// Whether an L stands directly before the literal.
+#[derive(Clone, Copy)]
+enum Width {
+    Narrow,
+    Wide,
+}
+
+impl Width {
+    // How many hex digits the letter after a backslash takes at most.
+    #[tactic(auto, unfolding(text::specs::Literals::hexadecimal_digits))]
+    fn hexadecimal_digits(self, letter: u8) -> Option<usize>
+        ensures { result ≡ found (literals.hexadecimal_digits (is_wide self) letter) }
+    {
+        match (letter, self) {
+            (b'x', _) => Some(2),
+            (b'u', Width::Wide) => Some(4),
+            _ => None,
+        }
+    }
+
+    fn character_kind(self) -> u32
+        ensures { result ≡ literals.character_kind (is_wide self) }
+    {
+        match self {
+            Width::Narrow => kind::CHARACTER,
+            Width::Wide => kind::WIDE_CHARACTER,
+        }
+    }
+
+    fn string_kind(self) -> u32
+        ensures { result ≡ literals.string_kind (is_wide self) }
+    {
+        match self {
+            Width::Narrow => kind::STRING_LITERAL,
+            Width::Wide => kind::WIDE_STRING_LITERAL,
+        }
+    }
+}
 
 // A byte that makes an escape of two bytes with the backslash before it.
+#[tactic(auto, unfolding(text::specs::Literals::simple))]
 fn is_simple(byte: u8) -> bool
-    ensures { result ≡ simple byte }
+    ensures { result ≡ literals.simple byte }
 {
-    match byte {
-        b'n' | b't' | b'v' | b'b' | b'r' | b'f' | b'a' | b'\\' | b'?' | b'\'' | b'"' => true,
-        _ => false,
+    matches!(
+        byte,
+        b'n' | b't' | b'v' | b'b' | b'r' | b'f' | b'a' | b'\\' | b'?' | b'\'' | b'"'
+    )
+}
+
+// What is wrong where no character stands.
+#[tactic(auto, unfolding(text::specs::Literals::no_character, text::specs::Bytes::line_end, text::specs::Bytes::ended))]
+fn no_character(bs: &[u8]) -> Fault
+    ensures { Err result ≡ literals.no_character (at bs.now 0) }
+{
+    match bs {
+        [] | [b'\n' | b'\r', ..] => Fault::Open,
+        _ => Fault::BadLiteral,
     }
 }
 
-// Bytes as `byte_at` gives them.
-const LINE_FEED: u32 = b'\n' as u32;
-
-const CARRIAGE_RETURN: u32 = b'\r' as u32;
-
-const DIGIT_THREE: u32 = b'3' as u32;
-
-// The most octal digits of an escape.
-const OCTAL_DIGITS: usize = 3;
-
-// What stands where no character does.
-fn no_character(bs: &[u8]) -> Piece
-    ensures { result ≡ no_character (at bs.now 0) }
+// The digits of a class that stand there, up to a number of them.
+fn digits<C: Class>(most: usize, bs: &[u8]) -> &[u8]
+    ensures { result.now ≡ take (literals.digits C.member most bs.now) bs.now }
 {
-    match text::byte_at(bs, 0) {
-        LINE_FEED | CARRIAGE_RETURN | text::END => Piece::Unclosed,
-        _ => Piece::Bad,
-    }
-}
-
-// How many digits stand there, up to a number.
-fn digits(class: Class, most: usize, bs: &[u8]) -> usize
-    ensures { result ≡ digits (member class) most bs.now }
-{
-    if most < bs.len() {
-        text::run_of(class, &bs[..most])
-    } else {
-        text::run_of(class, bs)
-    }
+    let reach = &bs[..most.min(bs.len())];
+    &reach[..text::run_of::<C>(reach)]
 }
 
 // Whether every digit is 0.
 fn zeros(digits: &[u8]) -> bool
-    ensures { result ≡ zeros digits.now }
+    ensures { result ≡ literals.zeros digits.now }
 {
-    let mut place = 0;
-    while place < digits.len() {
-        if digits[place] != b'0' {
-            return false;
-        }
-        place += 1;
-    }
-    true
+    digits.iter().all(|digit| *digit == b'0')
 }
 
 // A character written with digits after one or two other bytes.
+#[tactic(auto, unfolding(text::specs::Literals::numbered))]
 fn numbered(before: usize, digits: &[u8]) -> Piece
     requires { before ≤ 2 }
-    ensures { result ≡ numbered before digits.now }
+    ensures { result ≡ literals.numbered before digits.now }
 {
     let size = before + digits.len();
     if zeros(digits) {
@@ -79,177 +100,127 @@ fn numbered(before: usize, digits: &[u8]) -> Piece
     }
 }
 
-// Three octal digits above \377.
-fn above_377(count: usize, bs: &[u8]) -> bool
-    ensures { result ≡ above_377 count bs.now }
+// One to three octal digits, at most \377.
+#[tactic(auto, unfolding(text::specs::Literals::octal_escape, text::specs::Literals::above_377))]
+fn octal_escape(bs: &[u8]) -> Result<Piece, Fault>
+    ensures { result ≡ literals.octal_escape bs.now }
 {
-    if count == OCTAL_DIGITS {
-        DIGIT_THREE < text::byte_at(bs, 0)
-    } else {
-        false
-    }
-}
-
-fn octal_escape(bs: &[u8]) -> Piece
-    ensures { result ≡ octal_escape bs.now }
-{
-    let count = digits(Class::Octal, OCTAL_DIGITS, bs);
-    if above_377(count, bs) {
-        Piece::Bad
-    } else {
-        numbered(1, &bs[..count])
+    match digits::<Octal>(3, bs) {
+        [b'4'..=b'7', _, _] => Err(Fault::BadLiteral),
+        digits => Ok(numbered(1, digits)),
     }
 }
 
 // An escape with hex digits, from the first of them on.
-fn hexadecimal_escape(most: usize, bs: &[u8]) -> Piece
-    ensures { result ≡ hexadecimal_escape most bs.now }
+#[tactic(auto, unfolding(text::specs::Literals::hexadecimal_escape))]
+fn hexadecimal_escape(most: usize, bs: &[u8]) -> Result<Piece, Fault>
+    ensures { result ≡ literals.hexadecimal_escape most bs.now }
 {
-    let count = digits(Class::Hexadecimal, most, bs);
-    if count == 0 {
-        no_character(bs)
-    } else {
-        numbered(2, &bs[..count])
-    }
-}
-
-// How many hex digits the letter after a backslash takes at most.
-fn hexadecimal_digits(wide: bool, letter: u8) -> usize
-    ensures { result ≡ hexadecimal_digits wide letter }
-{
-    match letter {
-        b'x' => 2,
-        b'u' => if wide { 4 } else { 0 },
-        _ => 0,
+    match digits::<Hexadecimal>(most, bs) {
+        [] => Err(no_character(bs)),
+        digits => Ok(numbered(2, digits)),
     }
 }
 
 // What stands after a backslash.
-fn escape(wide: bool, bs: &[u8]) -> Piece
-    ensures { result ≡ escape wide bs.now }
+#[tactic(auto, unfolding(text::specs::Literals::escape))]
+fn escape(width: Width, bs: &[u8]) -> Result<Piece, Fault>
+    ensures { result ≡ literals.escape (is_wide width) bs.now }
 {
-    if bs.len() == 0 {
-        return Piece::Unclosed;
+    let [first, digits @ ..] = bs else {
+        return Err(Fault::Open);
+    };
+    if is_simple(*first) {
+        return Ok(Piece::Character(2));
     }
-    let first = bs[0];
-    if is_simple(first) {
-        return Piece::Character(2);
-    }
-    if text::is_octal(first) {
+    if Octal::has(*first) {
         return octal_escape(bs);
     }
-    let most = hexadecimal_digits(wide, first);
-    if 0 < most {
-        hexadecimal_escape(most, &bs[1..])
-    } else {
-        no_character(bs)
+    match width.hexadecimal_digits(*first) {
+        Some(most) => hexadecimal_escape(most, digits),
+        None => Err(no_character(bs)),
     }
 }
 
 // What stands next inside a literal.
-fn piece(wide: bool, quote: u8, bs: &[u8]) -> Piece
-    ensures { result ≡ piece wide quote bs.now }
+#[tactic(auto, unfolding(text::specs::Literals::piece))]
+fn piece(width: Width, quote: u8, bs: &[u8]) -> Result<Piece, Fault>
+    ensures { result ≡ literals.piece (is_wide width) quote bs.now }
 {
-    if bs.len() == 0 {
-        return Piece::Unclosed;
+    match bs {
+        [] => Err(Fault::Open),
+        [first, ..] if *first == quote => Ok(Piece::Close),
+        [b'\\', escaped @ ..] => escape(width, escaped),
+        [first, ..] if Plain::has(*first) => Ok(Piece::Character(1)),
+        _ => Err(no_character(bs)),
     }
-    let first = bs[0];
-    if first == quote {
-        return Piece::Close;
-    }
-    if first == b'\\' {
-        return escape(wide, &bs[1..]);
-    }
-    if text::is_plain(first) {
-        Piece::Character(1)
-    } else {
-        no_character(bs)
-    }
-}
-
-// The kind of a literal that may be wide.
-fn by_width(wide: bool, kind: u32, widened: u32) -> u32
-    ensures { result ≡ cond wide widened kind }
-{
-    if wide { widened } else { kind }
 }
 
 // The end of a character literal, after its one character.
-fn closing(wide: bool, read: usize, bs: &[u8]) -> Lexeme
+#[tactic(auto, unfolding(text::specs::Literals::closing, text::specs::Literals::after_character))]
+fn closing(width: Width, read: usize, bs: &[u8]) -> Result<Lexeme, Fault>
     requires { read ≤ length bs.now }
-    ensures { result ≡ closing wide read bs.now }
+    ensures { result ≡ literals.closing (is_wide width) read bs.now }
 {
-    let next = piece(wide, b'\'', &bs[read..]);
-    match next {
-        Piece::Close => Lexeme::Token(
-            by_width(wide, kind::CHARACTER, kind::WIDE_CHARACTER),
-            read + 1,
-        ),
-        Piece::Unclosed => Lexeme::Open,
-        Piece::Character(_) => Lexeme::BadLiteral,
-        Piece::Zero(_) => Lexeme::BadLiteral,
-        Piece::Bad => Lexeme::BadLiteral,
+    match piece(width, b'\'', &bs[read..])? {
+        Piece::Close => Ok(Lexeme::Token(width.character_kind(), read + 1)),
+        Piece::Character(_) | Piece::Zero(_) => Err(Fault::BadLiteral),
     }
 }
 
 // A character literal whose first bytes, to its opening quote, are read.
-fn character(wide: bool, read: usize, bs: &[u8]) -> Lexeme
+#[tactic(auto, unfolding(text::specs::Literals::character, text::specs::Literals::one_character))]
+fn character(width: Width, read: usize, bs: &[u8]) -> Result<Lexeme, Fault>
     requires { read ≤ length bs.now }
-    ensures { result ≡ character wide read bs.now }
+    ensures { result ≡ literals.character (is_wide width) read bs.now }
 {
-    let next = piece(wide, b'\'', &bs[read..]);
-    match next {
-        Piece::Close => Lexeme::BadLiteral,
-        Piece::Unclosed => Lexeme::Open,
-        Piece::Character(taken) => closing(wide, read + taken, bs),
-        Piece::Zero(taken) => closing(wide, read + taken, bs),
-        Piece::Bad => Lexeme::BadLiteral,
+    match piece(width, b'\'', &bs[read..])? {
+        Piece::Close => Err(Fault::BadLiteral),
+        Piece::Character(taken) | Piece::Zero(taken) => closing(width, read + taken, bs),
     }
 }
 
 // A string whose first bytes, to its opening quote, are read.
-fn string(wide: bool, read: usize, bs: &[u8]) -> Lexeme
+#[tactic(auto, using(text::proofs::Runs::run_within))]
+fn string(width: Width, read: usize, bs: &[u8]) -> Result<Lexeme, Fault>
     requires { read ≤ length bs.now }
-    ensures { result ≡ string wide read bs.now }
+    ensures { result ≡ literals.string (is_wide width) read bs.now }
 {
     let mut place = read;
     loop {
         place += text::string_run(&bs[place..]);
-        let next = piece(wide, b'"', &bs[place..]);
-        match next {
-            Piece::Close => return Lexeme::Token(
-                by_width(wide, kind::STRING_LITERAL, kind::WIDE_STRING_LITERAL),
-                place + 1,
-            ),
-            Piece::Unclosed => return Lexeme::Open,
+        match piece(width, b'"', &bs[place..])? {
+            Piece::Close => return Ok(Lexeme::Token(width.string_kind(), place + 1)),
             Piece::Character(taken) => place += taken,
-            Piece::Zero(_) => return Lexeme::BadLiteral,
-            Piece::Bad => return Lexeme::BadLiteral,
+            Piece::Zero(_) => return Err(Fault::BadLiteral),
         }
     }
 }
 
 // A literal whose opening quote has so many bytes before it.
-fn quoted(wide: bool, before: usize, bs: &[u8]) -> Lexeme
-    ensures { result ≡ quoted wide before bs.now }
+#[tactic(auto, unfolding(text::specs::Literals::quoted))]
+fn quoted(width: Width, before: usize, bs: &[u8]) -> Result<Lexeme, Fault>
+    ensures { result ≡ literals.quoted (is_wide width) before bs.now }
 {
     match text::byte_at(bs, before) {
-        text::QUOTE => character(wide, before + 1, bs),
-        text::DOUBLE_QUOTE => string(wide, before + 1, bs),
-        _ => Lexeme::NoLexeme,
+        Some(b'\'') => character(width, before + 1, bs),
+        Some(b'"') => string(width, before + 1, bs),
+        _ => Err(Fault::NoLexeme),
     }
 }
 
 // A literal whose first byte is its opening quote.
-pub fn literal(bs: &[u8]) -> Lexeme
-    ensures { result ≡ literal bs.now }
+#[tactic(auto, unfolding(text::specs::Literals::literal))]
+pub fn literal(bs: &[u8]) -> Result<Lexeme, Fault>
+    ensures { result ≡ literals.literal bs.now }
 {
-    quoted(false, 0, bs)
+    quoted(Width::Narrow, 0, bs)
 }
 
 // A literal whose first byte is its L.
-pub fn wide_literal(bs: &[u8]) -> Lexeme
-    ensures { result ≡ wide_literal bs.now }
+#[tactic(auto, unfolding(text::specs::Literals::wide_literal))]
+pub fn wide_literal(bs: &[u8]) -> Result<Lexeme, Fault>
+    ensures { result ≡ literals.wide_literal bs.now }
 {
-    quoted(true, 1, bs)
+    quoted(Width::Wide, 1, bs)
 }

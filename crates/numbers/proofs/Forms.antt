@@ -9,12 +9,18 @@ use Prim.Native.Nat.{ℕ, ◌+◌, ◌≤◌, ◌<◌, max}
 use native.Mathlib.Omega.{arith}
 use borrow.Author.Tests.{lt-ltb, le-ltb}
 use lib.Dec.{eqb, ltb}
-use lib.ListN.{drop}
+use lib.ListN.{drop, length-drop}
+use lib.Seq.{get_or-drop}
+use Rattle.std.proofs.lemmas.Bool.Decides.{nat_tests}
+use Rattle.text.proofs.Rests.{rest, past_end}
+use Rattle.text.proofs.Runs.{at_inside}
+use Rattle.std.specs.Prelude.{Err}
 use Rattle.kinds.specs.Kinds as kinds
 use Rattle.text.specs.Bytes.{at, run, digit}
 use Rattle.text.specs.Numbers.{either, only, hexadecimal_integer, integer, pointed, mantissa, exponent}
 use Rattle.text.specs.Numbers.{floating, fixed, followed, longest, number}
-use Rattle.text.specs.declared.Lexeme.TheVariants.{NoLexeme}
+use Rattle.text.specs.declared.Fault.TheVariants.{NoLexeme}
+use Rattle.numbers.proofs.Within.{mantissa_within, power_within}
 use Rattle.numbers.proofs.Tests.{conflict, either_class, zero_or_more, only_within}
 use Rattle.numbers.proofs.Integers.{Prefixed, prefixed, past_zero, zero_alone, integer_short, integer_some, integer_none}
 use Rattle.numbers.proofs.Parts.{mantissa_is, mantissa_least, mantissa_whole, pointed_long, power_none}
@@ -23,7 +29,7 @@ use Rattle.numbers.proofs.Parts.{mantissa_is, mantissa_least, mantissa_whole, po
 abbrev pub power : List ℕ → ℕ
 power bs = exponent (drop (mantissa bs) bs)
 
-abbrev pub fixed_letter : List ℕ → Bool
+abbrev fixed_letter : List ℕ → Bool
 fixed_letter bs = either (code "d") (code "D") (at bs (mantissa bs))
 
 -- after 0x or 0X stand no other form's bytes
@@ -113,27 +119,42 @@ module _ (bs : List ℕ) where
   unfolding longest
   longest_integer i h = rw (le-ltb (max i 0) 0 (omega arith), le-ltb i 0 (omega arith), lt-ltb 0 i h)
 
-  pub number_fixed : 0 < mantissa bs → fixed_letter bs ≡ true → followed bs kinds.fixed (mantissa bs + 1) ≡ number bs
+  pub number_fixed : 0 < mantissa bs → fixed_letter bs ≡ true → number bs ≡ followed bs kinds.fixed (mantissa bs + 1)
   number_fixed h e =
       let x = fixed_some h e in
       let no_power = power_none bs (mantissa bs)
       (either_class (either (code "e") (code "E")) false (code "d") (code "D") (at bs (mantissa bs)) refl refl e) in
-      sym
-      (number_is
+      number_is
       ∙ longest_fixed (integer bs) (floating bs) (fixed bs) (omega (arith, integer_shorter bs (inl e), mantissa_least bs, floating_most))
-      ∙ ap (followed bs kinds.fixed) x)
+      ∙ ap (followed bs kinds.fixed) x
 
   pub number_floating : 0 < mantissa bs → fixed_letter bs ≡ false → run digit bs < mantissa bs + power bs →
-      followed bs kinds.floating (mantissa bs + power bs) ≡ number bs
+      number bs ≡ followed bs kinds.floating (mantissa bs + power bs)
   number_floating h e l =
       rw (number_is, fixed_none e, floating_some h l)
-      (sym (longest_floating (integer bs) (mantissa bs + power bs) (omega (arith, integer_shorter bs (inr l)))))
+      (longest_floating (integer bs) (mantissa bs + power bs) (omega (arith, integer_shorter bs (inr l))))
 
   pub number_integer : 0 < mantissa bs → fixed_letter bs ≡ false → mantissa bs + power bs ≤ run digit bs →
-      followed bs kinds.integer (integer bs) ≡ number bs
+      number bs ≡ followed bs kinds.integer (integer bs)
   number_integer h e l =
-      rw (number_is, fixed_none e, floating_none l) (sym (longest_integer (integer bs) (integer_some bs (omega arith))))
+      rw (number_is, fixed_none e, floating_none l) (longest_integer (integer bs) (integer_some bs (omega arith)))
 
-  pub number_none : mantissa bs ≡ 0 → NoLexeme ≡ number bs
+  pub number_none : mantissa bs ≡ 0 → number bs ≡ Err NoLexeme
   unfolding longest
   number_none e = rw (number_is, fixed_empty e, floating_empty e, integer_none bs (omega (arith, mantissa_least bs)))
+
+-- the form that stands there, by what follows its digits and its point; and what the code reads there
+pub ruleset forms = (
+  number_fixed,
+  number_floating,
+  number_integer,
+  number_none,
+  mantissa_within,
+  power_within,
+  at_inside,
+  past_end,
+  rest,
+  get_or-drop,
+  length-drop,
+  nat_tests,
+)

@@ -12,7 +12,10 @@ use lib.Dec.{eqb, ltb, leb}
 use lib.ListN.{drop}
 use lib.Seq.{get_or-drop}
 use Rattle.text.specs.Bytes.{from, end, at, run, digit, octal, hexadecimal}
-use Rattle.text.specs.Numbers.{either, only, decimal_integer, octal_integer, hexadecimal_integer, integer}
+use Rattle.text.specs.Numbers.{either, decimal_integer, octal_integer, hexadecimal_integer, integer}
+use Rattle.std.specs.Option.{unwrap_or, option_or}
+use Rattle.std.proofs.lemmas.Bool.Decides.{nat_tests}
+use Rattle.text.specs.Found.{found}
 use Rattle.numbers.proofs.Tests.{by_test, decided, conflict, refuted, both, either_class, zero_or_more, only_within}
 
 run_none : (class : ℕ → Bool) (bs : List ℕ) → class (at bs 0) ≡ false → run class bs ≡ 0
@@ -51,7 +54,7 @@ no_digit b e f =
     conflict t f)
 
 -- a decimal integer, or none
-pub integer_decimal : (bs : List ℕ) → eqb (at bs 0) (code "0") ≡ false → integer bs ≡ run digit bs
+integer_decimal : (bs : List ℕ) → eqb (at bs 0) (code "0") ≡ false → integer bs ≡ run digit bs
 unfolding integer decimal_integer octal_integer hexadecimal_integer
 integer_decimal bs e =
     rw e
@@ -102,22 +105,28 @@ pub integer_short : (bs : List ℕ) → hexadecimal_integer bs ≡ 0 → integer
 unfolding integer
 integer_short bs e = omega (arith, decimal_short bs, octal_short bs)
 
-pub integer_hexadecimal : (bs : List ℕ) → 0 < hexadecimal_integer bs → integer bs ≡ hexadecimal_integer bs
+integer_hexadecimal : (bs : List ℕ) → 0 < hexadecimal_integer bs → integer bs ≡ hexadecimal_integer bs
 unfolding integer digit
 integer_hexadecimal bs h =
     let p = prefixed bs h in
     omega (arith, decimal_short bs, octal_short bs, zero_alone bs p digit refl refl refl refl, p.long)
 
-pub integer_octal : (bs : List ℕ) →
+integer_octal : (bs : List ℕ) →
     eqb (at bs 0) (code "0") ≡ true → hexadecimal_integer bs ≡ 0 → integer bs ≡ octal_integer bs
 unfolding integer decimal_integer
 integer_octal bs e h = rw (ap (from (code "1") (code "9")) (eqb-true (at bs 0) (code "0") e)) (omega arith)
 
-pub hexadecimal_is : (bs : List ℕ) {digits : ℕ} →
-    eqb (at bs 0) (code "0") ≡ true → either (code "x") (code "X") (at bs 1) ≡ true →
-    digits ≡ run hexadecimal (drop 2 bs) → hexadecimal_integer bs ≡ only (ltb 0 digits) (2 + digits)
-unfolding hexadecimal_integer
-hexadecimal_is bs z x d = rw (d, z, x)
+-- the first that stands there of hex digits after 0x, octal digits after 0, and digits
+pub integer_first : (bs : List ℕ) →
+    integer bs ≡ unwrap_or (option_or (found (hexadecimal_integer bs)) (found (octal_integer bs))) (run digit bs)
+unfolding octal_integer
+integer_first bs =
+    let zero_digit = eqb (at bs 0) (code "0") in
+    ⊎_elim
+    (λ (none : hexadecimal_integer bs ≡ 0).
+    ⊎_elim (λ (z : zero_digit ≡ true). let i = integer_octal bs z none in grind (arith, nat_tests))
+    (λ z. let i = integer_decimal bs z in grind (arith, nat_tests)) (decided zero_digit))
+    (λ some. let i = integer_hexadecimal bs some in grind (arith, nat_tests)) (zero_or_more (hexadecimal_integer bs))
 
 -- an integer stands where a digit does
 pub integer_some : (bs : List ℕ) → 0 < run digit bs → 0 < integer bs

@@ -1,7 +1,7 @@
 -- The parts of a number: the mantissa by its digits and its point, and the exponent.
 -- Each is what the definition gives once the tests on the bytes are known. Assumes nothing.
-use mathlib.Core.Path.{◌≡◌, refl, ◌∙◌}
-use mathlib.Core.Bool.{true, false, ◌&&◌}
+use mathlib.Core.Path.{◌≡◌, refl}
+use mathlib.Core.Bool.{false, ◌&&◌}
 use mathlib.Core.List.{List}
 use Prim.Native.Char.{code}
 use Prim.Native.Nat.{ℕ, ◌+◌, ◌≤◌, ◌<◌, max}
@@ -11,8 +11,8 @@ use lib.Dec.{eqb, ltb}
 use lib.ListN.{drop}
 use lib.Seq.{get_or-drop}
 use Rattle.text.specs.Bytes.{at, run, digit}
-use Rattle.text.specs.Numbers.{either, only, pointed, mantissa, sign, exponent}
-use Rattle.numbers.proofs.Tests.{by_test, only_some, only_none}
+use Rattle.text.specs.Numbers.{either, pointed, mantissa, exponent}
+use Rattle.numbers.proofs.Tests.{by_test}
 
 pub mantissa_is : (bs : List ℕ) → mantissa bs ≡ max (pointed bs) (run digit bs)
 unfolding mantissa
@@ -36,26 +36,9 @@ pub mantissa_whole : (bs : List ℕ) {whole : ℕ} →
 unfolding mantissa pointed
 mantissa_whole bs e t = rw (e, rw e at t) (omega arith)
 
-module _ (bs : List ℕ) {whole part : ℕ} (e : whole ≡ run digit bs) (p : part ≡ run digit (drop (whole + 1) bs))
-    (t : eqb (at bs whole) (code ".") ≡ true) where
-  pointed_is : pointed bs ≡ only (ltb 0 (whole + part)) (whole + 1 + part)
-  unfolding pointed
-  pointed_is = rw (p, e, rw e at t)
-
-  pub mantissa_lone : whole + part ≤ 0 → 0 ≡ mantissa bs
-  mantissa_lone h = omega (arith, mantissa_is bs, pointed_is ∙ only_none (whole + part) (whole + 1 + part) h)
-
-  pub mantissa_pointed : 0 < whole + part → whole + 1 + part ≡ mantissa bs
-  mantissa_pointed h = omega (arith, mantissa_is bs, pointed_is ∙ only_some (whole + part) (whole + 1 + part) h)
-
-pub exponent_none : (bs : List ℕ) → either (code "e") (code "E") (at bs 0) ≡ false → exponent bs ≡ 0
+exponent_none : (bs : List ℕ) → either (code "e") (code "E") (at bs 0) ≡ false → exponent bs ≡ 0
 unfolding exponent
 exponent_none bs e = rw e
 
 pub power_none : (bs : List ℕ) (n : ℕ) → either (code "e") (code "E") (at bs n) ≡ false → exponent (drop n bs) ≡ 0
 power_none bs n e = exponent_none (drop n bs) (rw (get_or-drop, add-zero) e)
-
-pub exponent_is : (bs : List ℕ) {first digits : ℕ} → first ≡ 1 + sign (drop 1 bs) → digits ≡ run digit (drop first bs) →
-    either (code "e") (code "E") (at bs 0) ≡ true → exponent bs ≡ only (ltb 0 digits) (first + digits)
-unfolding exponent
-exponent_is bs f d t = rw (d, f, t)

@@ -5,8 +5,8 @@ use mathlib.Core.Bool.{Bool, true, false, ◌&&◌, ◌||◌, cond}
 use mathlib.Core.Logic.{◌⊎◌, inl, inr, ⊎_elim}
 use Prim.Native.Nat.{ℕ, zero, suc, ◌≤◌, ◌<◌}
 use native.Mathlib.Omega.{arith}
-use borrow.Author.Tests.{eqb-true, lt-ltb, le-ltb}
-use lib.Dec.{eqb, ltb}
+use borrow.Author.Tests.{eqb-true}
+use lib.Dec.{eqb}
 use Rattle.text.specs.Numbers.{either, only}
 
 -- what holds of both answers of a test holds of the answer
@@ -47,9 +47,3 @@ zero_or_more (suc n) = inr (omega arith)
 
 pub only_within : (t : Bool) {n most : ℕ} → (t ≡ true → n ≤ most) → only t n ≤ most
 only_within t {n} {most} h = by_test (λ (k : ℕ). k ≤ most) t h (λ e. omega arith)
-
-pub only_some : (n k : ℕ) → 0 < n → only (ltb 0 n) k ≡ k
-only_some n k h = rw (lt-ltb 0 n h)
-
-pub only_none : (n k : ℕ) → n ≤ 0 → only (ltb 0 n) k ≡ 0
-only_none n k h = rw (le-ltb 0 n h)

@@ -19,10 +19,10 @@ use Rattle.text.proofs.Runs.{run_within}
 use Rattle.text.proofs.Sizes.{Sized}
 use Rattle.numbers.proofs.Tests.{by_test, both, either_cases, only_within}
 
-pub stands_within : (bs : List ℕ) (n b : ℕ) → b < end → eqb (at bs n) b ≡ true → n < length bs
+stands_within : (bs : List ℕ) (n b : ℕ) → b < end → eqb (at bs n) b ≡ true → n < length bs
 stands_within bs n b h e = byte_inside bs n (omega (arith, eqb-true (at bs n) b e))
 
-pub either_within : (bs : List ℕ) (n x y : ℕ) → x < end → y < end → either x y (at bs n) ≡ true → n < length bs
+either_within : (bs : List ℕ) (n x y : ℕ) → x < end → y < end → either x y (at bs n) ≡ true → n < length bs
 either_within bs n x y h k e = byte_inside bs n (⊎_elim (λ s. omega arith) (λ s. omega arith) (either_cases x y (at bs n) e))
 
 -- a run that starts n bytes on

@@ -1,126 +1,110 @@
 // The numbers of a text: integer, floating and fixed. Each function is given the rest of the text from the number's first byte.
 #![tactic(auto)]
 
-ghost use Rattle.std.specs.Prelude.{◌≡◌, eqb};
-ghost use Rattle.text.specs.Bytes.{at, run, digit};
+ghost use Rattle.std.specs.Prelude.{◌≡◌};
+ghost use Rattle.text.specs.Bytes.{run, digit};
 ghost use Rattle.text.specs.Numbers as numbers;
+ghost use Rattle.text.specs.Found.{found};
 
 use kinds::kind;
-use text::{Class, Lexeme, byte_at, is_in, run_of};
+use text::{Class, Digit, Fault, Hexadecimal, Lexeme, Octal, Wordly, run_of};
 
-// Whether a byte stands at a place.
-fn stands(bs: &[u8], place: usize, byte: u8) -> bool
-    ensures { result ≡ eqb (at bs.now place) byte }
+// The length of 0x or 0X and hex digits.
+#[tactic(auto, using(text::proofs::Runs::run_within), unfolding(text::specs::Numbers::hexadecimal_integer))]
+fn hexadecimal_integer(bs: &[u8]) -> Option<usize>
+    ensures { result ≡ found (numbers.hexadecimal_integer bs.now) }
 {
-    byte_at(bs, place) == byte as u32
-}
-
-// Whether one of two bytes stands at a place.
-fn either(bs: &[u8], place: usize, x: u8, y: u8) -> bool
-    ensures { result ≡ numbers.either x y (at bs.now place) }
-{
-    if stands(bs, place, x) {
-        return true;
-    }
-    stands(bs, place, y)
+    let [b'0', b'x' | b'X', digits @ ..] = bs else {
+        return None;
+    };
+    let count = run_of::<Hexadecimal>(digits);
+    (0 < count).then_some(2 + count)
 }
 
 // The length of 0 and octal digits.
-fn octal_integer(bs: &[u8]) -> usize
-    ensures { result ≡ numbers.octal_integer bs.now }
+#[tactic(auto, using(text::proofs::Runs::run_within), unfolding(text::specs::Numbers::octal_integer))]
+fn octal_integer(bs: &[u8]) -> Option<usize>
+    ensures { result ≡ found (numbers.octal_integer bs.now) }
 {
-    if !stands(bs, 0, b'0') {
-        return 0;
-    }
-    1 + run_of(Class::Octal, &bs[1..])
-}
-
-// The length of 0x or 0X and hex digits.
-fn hexadecimal_integer(bs: &[u8]) -> usize
-    ensures { result ≡ numbers.hexadecimal_integer bs.now }
-{
-    if !stands(bs, 0, b'0') {
-        return 0;
-    }
-    if !either(bs, 1, b'x', b'X') {
-        return 0;
-    }
-    let digits = run_of(Class::Hexadecimal, &bs[2..]);
-    if 0 < digits { 2 + digits } else { 0 }
+    let [b'0', digits @ ..] = bs else {
+        return None;
+    };
+    Some(1 + run_of::<Octal>(digits))
 }
 
 // An integer's length; `whole` is that of the digits at the front.
+#[tactic(auto, using(crate::proofs::Integers::integer_first))]
 fn integer(bs: &[u8], whole: usize) -> usize
     requires { whole ≡ run digit bs.now }
     ensures { result ≡ numbers.integer bs.now }
 {
-    if !stands(bs, 0, b'0') {
-        return whole;
-    }
-    let size = hexadecimal_integer(bs);
-    if 0 < size {
-        return size;
-    }
-    octal_integer(bs)
+    hexadecimal_integer(bs)
+        .or_else(|| octal_integer(bs))
+        .unwrap_or(whole)
 }
 
 // The length of the part before an exponent; `whole` is that of the digits at the front.
-fn mantissa(bs: &[u8], whole: usize) -> usize
+#[tactic(auto, using(text::proofs::Runs::run_within), unfolding(text::specs::Numbers::mantissa, text::specs::Numbers::pointed))]
+fn mantissa(bs: &[u8], whole: usize) -> Option<usize>
     requires { whole ≡ run digit bs.now }
-    ensures { result ≡ numbers.mantissa bs.now }
+    ensures { result ≡ found (numbers.mantissa bs.now) }
 {
-    if !stands(bs, whole, b'.') {
-        return whole;
-    }
-    let past = whole + 1;
-    let part = run_of(Class::Digit, &bs[past..]);
-    if 0 < whole + part { past + part } else { 0 }
+    let [b'.', part @ ..] = &bs[whole..] else {
+        return (0 < whole).then_some(whole);
+    };
+    let digits = run_of::<Digit>(part);
+    (0 < whole + digits).then_some(whole + 1 + digits)
 }
 
 // The length of an optional sign.
+#[tactic(auto, unfolding(text::specs::Numbers::sign))]
 fn sign(bs: &[u8]) -> usize
     ensures { result ≡ numbers.sign bs.now }
 {
-    if either(bs, 0, b'+', b'-') { 1 } else { 0 }
+    match bs {
+        [b'+' | b'-', ..] => 1,
+        _ => 0,
+    }
 }
 
-// An exponent's length.
+// The length of an optional exponent.
+#[tactic(auto, using(text::proofs::Runs::run_within, crate::proofs::Within::sign_within), unfolding(text::specs::Numbers::exponent))]
 fn exponent(bs: &[u8]) -> usize
     ensures { result ≡ numbers.exponent bs.now }
 {
-    if !either(bs, 0, b'e', b'E') {
+    let [b'e' | b'E', power @ ..] = bs else {
         return 0;
+    };
+    let signs = sign(power);
+    match run_of::<Digit>(&power[signs..]) {
+        0 => 0,
+        digits => 1 + signs + digits,
     }
-    let first = 1 + sign(&bs[1..]);
-    let digits = run_of(Class::Digit, &bs[first..]);
-    if 0 < digits { first + digits } else { 0 }
 }
 
 // A number of a kind and a length, unless a letter, digit or underscore follows it directly.
-fn followed(bs: &[u8], kind: u32, size: usize) -> Lexeme
+#[tactic(auto, unfolding(text::specs::Numbers::followed))]
+fn followed(bs: &[u8], kind: u32, size: usize) -> Result<Lexeme, Fault>
     ensures { result ≡ numbers.followed bs.now kind size }
 {
-    if size < bs.len() {
-        if is_in(Class::Wordly, bs[size]) {
-            return Lexeme::BadLiteral;
-        }
+    if bs.get(size).is_some_and(|next| Wordly::has(*next)) {
+        return Err(Fault::BadLiteral);
     }
-    Lexeme::Token(kind, size)
+    Ok(Lexeme::Token(kind, size))
 }
 
 // The number at the front: what follows its digits and its point tells the form.
-pub fn number(bs: &[u8]) -> Lexeme
+#[tactic(auto, using(crate::proofs::Forms::forms))]
+pub fn number(bs: &[u8]) -> Result<Lexeme, Fault>
     ensures { result ≡ numbers.number bs.now }
 {
-    let whole = run_of(Class::Digit, bs);
-    let size = mantissa(bs, whole);
-    if size == 0 {
-        return Lexeme::NoLexeme;
-    }
-    if either(bs, size, b'd', b'D') {
+    let whole = run_of::<Digit>(bs);
+    let size = mantissa(bs, whole).ok_or(Fault::NoLexeme)?;
+    let rest = &bs[size..];
+    if let [b'd' | b'D', ..] = rest {
         return followed(bs, kind::FIXED_LITERAL, size + 1);
     }
-    let end = size + exponent(&bs[size..]);
+    let end = size + exponent(rest);
     if whole < end {
         return followed(bs, kind::FLOATING, end);
     }

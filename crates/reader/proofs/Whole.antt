@@ -5,15 +5,14 @@ use mathlib.Core.Path.{◌≡◌, refl, ap, sym, ◌∙◌, subst}
 use mathlib.Core.Bool.{Bool, true, false, cond, true≢false}
 use mathlib.Core.List.{List, ◌++◌, map, append_assoc}
 use native.Mathlib.Omega.{arith}
+use Rattle.std.specs.Prelude.{Some, None}
 use borrow.Author.Tests.{le-leb, lt-ltb, le-ltb, leb-true, leb-false}
 use lib.ListN.{length, drop}
 use lib.Seq.{take_at, drop_at}
 use Rattle.grammar.specs.Rule.{Edition}
 use Rattle.limits.specs.declared.Limits.{Limits}
-use Rattle.limits.specs.declared.Bounded.{Bounded}
-use Rattle.limits.specs.declared.Bounded.TheVariants.{Good, Beyond}
 use Rattle.limits.specs.Limits.{good_text, good_call, bounded}
-use Rattle.limits.proofs.Laws.{text_good, beyond_bad, within_good}
+use Rattle.limits.proofs.Laws.{text_good, none_bad, some_good}
 use Rattle.replies.specs.declared.Reply.{Reply}
 use Rattle.replies.specs.Replies as rows
 use Rattle.tables.specs.Tables.{token_width, node_width, capacity, row, front, zeroed, Records, none, more}
@@ -49,10 +48,9 @@ kept_refused text ts table (verdicts.deep q) e = refl
 kept_refused text ts table (verdicts.full r) e = refl
 kept_refused text ts table (verdicts.accepted rs) e = absurd (e refl)
 
-module _ (setting : ℕ) (text table tree : List ℕ) {r : Bounded} {l : Limits}
-    (made : r ≡ bounded (length text) setting) (within : r ≡ Good l) where
+module _ (setting : ℕ) (text table tree : List ℕ) {l : Limits} (made : Some l ≡ bounded (length text) setting) where
   good : good_call (length text) setting ≡ true
-  good = within_good (length text) setting made within
+  good = some_good (length text) setting made
 
   good_length : good_text (length text) ≡ true
   good_length = text_good (length text) setting good
@@ -205,10 +203,9 @@ module _ (setting : ℕ) (text table tree : List ℕ) {r : Bounded} {l : Limits}
         }
 
 -- a bad call
-pub beyond : {E : Edition} (setting : ℕ) (text table tree : List ℕ) {r : Bounded} {reply : Reply} →
-    r ≡ bounded (length text) setting → r ≡ Beyond → reply ≡ rows.outside_limits →
-    Answered E text table tree setting reply table tree
-beyond setting text table tree a b e = record {
+pub beyond : {E : Edition} (setting : ℕ) (text table tree : List ℕ) {reply : Reply} →
+    None ≡ bounded (length text) setting → reply ≡ rows.outside_limits → Answered E text table tree setting reply table tree
+beyond setting text table tree a e = record {
   outside = λ u. (e, (refl, refl));
-  inside = λ u. absurd (true≢false (sym u ∙ beyond_bad (length text) setting a b));
+  inside = λ u. absurd (true≢false (sym u ∙ none_bad (length text) setting a));
 }

@@ -4,9 +4,9 @@
 ghost use Rattle.grammar.specs.Idl.{idl};
 ghost use Rattle.meaning.specs.Calls.{Answered};
 
-use limits::{Bounded, Limits};
+use limits::Limits;
 use replies::Reply;
-use tables::{clear, index};
+use tables::clear;
 use tokens::read_tokens;
 use tree::read_tree;
 
@@ -15,17 +15,16 @@ pub fn read(text: &[u8], tokens: &mut [u32], tree: &mut [u32], depth: u32) -> Re
     ensures { Answered idl text.now tokens.old tree.old depth result
         tokens.new tree.new }
 {
-    let limits = Limits::new(text.len(), depth);
-    let Bounded::Good(_) = limits else {
+    let Some(_) = Limits::new(text.len(), depth) else {
         return Reply::outside_limits();
     };
     let found = read_tokens(text, tokens);
-    if found.number != Reply::ACCEPTED {
+    if !found.is_accepted() {
         clear(tree);
         return found;
     }
-    let answer = read_tree(tokens, index(found.tokens), text.len(), tree, depth);
-    if answer.number == Reply::ACCEPTED {
+    let answer = read_tree(tokens, found.tokens as usize, text.len(), tree, depth);
+    if answer.is_accepted() {
         return answer;
     }
     clear(tokens);

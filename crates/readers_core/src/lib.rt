@@ -151,6 +151,6 @@ pub fn node(tree: &mut [u32], start: Reading, state: Reading, rule: u32) -> Read
     }
     let place = records(state);
     let size = records(std::num::wrapping_sub_u64(counted, start));
-    tables::put_node(tree, place as usize, rule, low(start), low(state), size);
+    tables::put(tree, place as usize, [rule, low(start), low(state), size]);
     counted
 }

@@ -3,11 +3,27 @@
 // Each row of the paper's table has its constructor.
 #![tactic(auto)]
 
-ghost use Rattle.std.specs.Prelude.{◌≡◌};
+ghost use Rattle.std.specs.Prelude.{◌≡◌, ◌==◌};
 ghost use Rattle.replies.specs.Replies as rows;
+ghost use Rattle.replies.specs.Rows.{number};
+
+// The rows of the table, by their numbers.
+#[derive(Clone, Copy, PartialEq, Eq, Debug)]
+enum Row {
+    Accepted = 0,
+    OutsideLimits = 1,
+    NoLexeme = 2,
+    LeftOpen = 3,
+    BadLiteral = 4,
+    OtherCase = 5,
+    MoreTokens = 6,
+    Grammar = 7,
+    TooDeep = 8,
+    MoreRecords = 9,
+}
 
 #[repr(C)]
-#[derive(Drop)]
+#[derive(Clone, Copy, PartialEq, Eq, Debug)]
 pub struct Reply {
     pub number: u32,
     pub place: u32,
@@ -19,77 +35,81 @@ impl Reply {
     // The numbers of a reply.
     pub const WIDTH: usize = 4;
 
-    // The number of every acceptance, and of no refusal.
-    pub const ACCEPTED: u32 = 0;
-
-    fn of(number: u32, place: u32, tokens: u32, records: u32) -> Reply
-        ensures { result ≡ rows.reply number place tokens records }
+    fn of(row: Row, place: u32, tokens: u32, records: u32) -> Reply
+        ensures { result ≡ rows.reply (number row) place tokens records }
     {
         Reply {
-            number,
+            number: row as u32,
             place,
             tokens,
             records,
         }
     }
 
+    // Whether everything is accepted.
+    pub fn is_accepted(&self) -> bool
+        ensures { result ≡ (self.now.number == rows.accepted_number) }
+    {
+        self.number == Row::Accepted as u32
+    }
+
     pub fn accepted(text: u32, tokens: u32, records: u32) -> Reply
         ensures { result ≡ rows.accepted text tokens records }
     {
-        Reply::of(Reply::ACCEPTED, text, tokens, records)
+        Reply::of(Row::Accepted, text, tokens, records)
     }
 
     pub fn outside_limits() -> Reply
         ensures { result ≡ rows.outside_limits }
     {
-        Reply::of(1, 0, 0, 0)
+        Reply::of(Row::OutsideLimits, 0, 0, 0)
     }
 
     pub fn no_lexeme(place: u32) -> Reply
         ensures { result ≡ rows.no_lexeme place }
     {
-        Reply::of(2, place, 0, 0)
+        Reply::of(Row::NoLexeme, place, 0, 0)
     }
 
     pub fn left_open(place: u32) -> Reply
         ensures { result ≡ rows.left_open place }
     {
-        Reply::of(3, place, 0, 0)
+        Reply::of(Row::LeftOpen, place, 0, 0)
     }
 
     pub fn bad_literal(place: u32) -> Reply
         ensures { result ≡ rows.bad_literal place }
     {
-        Reply::of(4, place, 0, 0)
+        Reply::of(Row::BadLiteral, place, 0, 0)
     }
 
     pub fn other_case(place: u32, kind: u32) -> Reply
         ensures { result ≡ rows.other_case place kind }
     {
-        Reply::of(5, place, kind, 0)
+        Reply::of(Row::OtherCase, place, kind, 0)
     }
 
     pub fn more_tokens(text: u32, tokens: u32) -> Reply
         ensures { result ≡ rows.more_tokens text tokens }
     {
-        Reply::of(6, text, tokens, 0)
+        Reply::of(Row::MoreTokens, text, tokens, 0)
     }
 
     pub fn grammar(place: u32, tokens: u32) -> Reply
         ensures { result ≡ rows.grammar place tokens }
     {
-        Reply::of(7, place, tokens, 0)
+        Reply::of(Row::Grammar, place, tokens, 0)
     }
 
     pub fn too_deep(place: u32, tokens: u32) -> Reply
         ensures { result ≡ rows.too_deep place tokens }
     {
-        Reply::of(8, place, tokens, 0)
+        Reply::of(Row::TooDeep, place, tokens, 0)
     }
 
     pub fn more_records(text: u32, tokens: u32, records: u32) -> Reply
         ensures { result ≡ rows.more_records text tokens records }
     {
-        Reply::of(9, text, tokens, records)
+        Reply::of(Row::MoreRecords, text, tokens, records)
     }
 }

@@ -4,31 +4,33 @@
 ghost use Rattle.std.specs.Prelude.{◌≡◌, length};
 ghost use Rattle.spelling.specs.Spelling as specs;
 
-use tables::{TOKEN_FIRST, TOKEN_LENGTH, TOKEN_WIDTH, index};
+use tables::Token;
 
 // A part of a text: its first byte and its length in bytes.
 #[repr(C)]
-#[derive(Drop)]
+#[derive(Clone, Copy, PartialEq, Eq, Debug, Default)]
 pub struct Span {
     pub first: u32,
     pub length: u32,
+}
+
+// The part that record i names, where the table has that record and the part lies in the text.
+fn part(text: &[u8], tokens: &[u32], i: usize) -> Option<Span>
+    ensures { result ≡ specs.part (length text.now) tokens.now i }
+{
+    let token = Token::at(tokens, i)?;
+    let end = token.first as usize + token.length as usize;
+    (end <= text.len()).then_some(Span {
+        first: token.first,
+        length: token.length,
+    })
 }
 
 // The part that record i names; an empty one where the table has no such record, or where its span leaves the text.
 pub fn locate(text: &[u8], tokens: &[u32], i: usize) -> Span
     ensures { result ≡ specs.located (length text.now) tokens.now i }
 {
-    if i < tokens.len() / TOKEN_WIDTH {
-        let first = tokens[TOKEN_WIDTH * i + TOKEN_FIRST];
-        let length = tokens[TOKEN_WIDTH * i + TOKEN_LENGTH];
-        if index(first) + index(length) <= text.len() {
-            return Span { first, length };
-        }
-    }
-    Span {
-        first: 0,
-        length: 0,
-    }
+    part(text, tokens, i).unwrap_or_default()
 }
 
 // The bytes of the token of record i; none where `locate` answers an empty part.
@@ -36,7 +38,6 @@ pub fn spelling<'a>(text: &'a [u8], tokens: &[u32], i: usize) -> &'a [u8]
     ensures { result.now ≡ specs.spelling text.now tokens.now i }
 {
     let part = locate(text, tokens, i);
-    let first = index(part.first);
-    let end = first + index(part.length);
-    &text[first..end]
+    let first = part.first as usize;
+    &text[first..first + part.length as usize]
 }

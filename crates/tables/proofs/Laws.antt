@@ -3,13 +3,15 @@
 use mathlib.Core.Bool.{Bool, true, false, cond}
 use mathlib.Core.List.{List, [], ◌∷◌, ◌++◌, append_assoc}
 use mathlib.Core.Path.{◌≡◌, refl, ap, sym, subst, ◌∙◌}
-use Prim.Native.Nat.{ℕ, suc, ◌+◌, ◌*◌, ◌≤◌, ◌<◌}
-use native.Mathlib.Nat.{add-zero, mul-zero, mul-suc, mul-div-le, mul-le-mul_left, le_trans}
+use Prim.Native.Nat.{ℕ, suc, ◌+◌, ◌*◌, ◌-◌, ◌≤◌, ◌<◌}
+use native.Mathlib.Nat.{add-zero, mul-zero, mul-suc, mul-div-le, mul-le-mul_left, le_trans, lt-mul-div-succ}
+use borrow.Rule.Slice.PartMut.{put_mid}
+use Rattle.std.proofs.lemmas.Slice.{put_mid-paste}
 use native.Mathlib.Omega.{arith}
 use borrow.Author.Tests.{le-leb, lt-leb}
 use lib.Dec.{leb}
-use lib.ListN.{length, take, drop, length-append, take-append-drop}
-use lib.Seq.{sets, sets-eq, length-sets, take_at, drop-append-add, drop-drop, length-take-le}
+use lib.ListN.{length, take, drop, length-append, length-drop, take-append-drop}
+use lib.Seq.{sets, sets-eq, length-sets, take_all, take_at, drop-append-add, drop-drop, length-take-le}
 use Rattle.tables.specs.Tables.{capacity, put, store, row, front, Records, none, more}
 
 drop_past : (p q : List ℕ) (i m : ℕ) → length p ≡ i → drop (i + m) (p ++ q) ≡ drop m q
@@ -95,3 +97,26 @@ module _ (width : ℕ) where
   -- as many records as the table holds do fit
   pub capacity_fits : (t : List ℕ) (k : ℕ) → k ≤ capacity width t → width * k ≤ length t
   capacity_fits t k h = le_trans (mul-le-mul_left width h) (mul-div-le (length t) width)
+
+  -- a record place that the table has, and one that it has not
+  pub place_fits : (t : List ℕ) (n : ℕ) → n < capacity width t → width * n + width ≤ length t
+  place_fits t n h = omega (arith, capacity_fits t (suc n) h, mul-suc width n)
+
+  pub place_misses : (t : List ℕ) (n : ℕ) → 0 < width → capacity width t ≤ n → length t < width * n + width
+  place_misses t n w h =
+      let full = lt-mul-div-succ (length t) w in
+      let more : width * (capacity width t + 1) ≤ width * (n + 1) = mul-le-mul_left width (omega arith) in
+      omega (arith, mul-suc width n)
+
+  -- a write to the part of the table that is its place, where the table has it
+  pub put_part : (t r s : List ℕ) (n : ℕ) → n < capacity width t → s ≡ r →
+      length s ≡ length (take (width * n + width - width * n) (drop (width * n) t)) →
+      put_mid (width * n) (width * n + width - width * n) t s ≡ put width t n r
+  put_part t r s n h same wide =
+      let at = width * n in
+      let fits = place_fits t n h in
+      let k : width ≡ at + width - at = omega arith in
+      let e : length r ≡ width =
+      ap length (sym same) ∙ wide ∙ length-take-le (at + width - at) (drop at t) (omega (arith, length-drop at t)) ∙ sym k in
+      put_mid-paste at _ t s r width same k (sym e) ∙ ap (λ (l : List ℕ). (take at t ++ l) ++ drop (at + width) t) (take_all width r (omega arith))
+      ∙ sym (put_between t n r e fits)

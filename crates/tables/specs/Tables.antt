@@ -1,7 +1,8 @@
 -- Tables of records: paper 01, "The two tables". One definition for the token table and the tree table, over the width.
 -- Assumes nothing: these are definitions.
-use Rattle.std.specs.Prelude.{cond, List, [], ◌∷◌, ◌++◌, ◌≡◌, ℕ, suc, ◌+◌, ◌*◌, ◌/◌, ◌^◌, leb, length, drop, replicate}
+use Rattle.std.specs.Prelude.{cond, List, [], ◌∷◌, ◌++◌, ◌≡◌, ℕ, suc, ◌+◌, ◌*◌, ◌/◌, ◌^◌, leb, ltb, length, get_or, drop, replicate, Option, Some, None}
 use Rattle.std.proofs.lemmas.List.Edits.{sets}
+use Rattle.tables.specs.declared.Token.{Token}
 
 -- a number of a record has 32 bits
 abbrev pub number_end : ℕ
@@ -25,6 +26,13 @@ node_width = 4
 -- "A table holds its length divided by 3 or 4, rounded down, records."
 abbrev pub capacity : (width : ℕ) → List ℕ → ℕ
 capacity width table = length table / width
+
+-- the token record at record place n, where the table has that place
+abbrev pub token_at : List ℕ → (n : ℕ) → Option Token
+token_at tokens n =
+    let at = token_width * n in
+    let found : Token = record { kind = get_or tokens at 0; first = get_or tokens (at + token_first) 0; length = get_or tokens (at + token_length) 0 } in
+    cond (ltb n (capacity token_width tokens)) (Some found) None
 
 -- a table after one record at record place n; unchanged where it has no such place
 unfoldable pub put : (width : ℕ) → List ℕ → (n : ℕ) → (numbers : List ℕ) → List ℕ

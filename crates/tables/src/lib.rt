@@ -1,8 +1,8 @@
 // Tables of records: a record is a fixed number of 32-bit numbers, the table's width.
 #![tactic(auto)]
 
-ghost use Rattle.std.specs.Prelude.{◌≡◌, [], ◌∷◌, ◌<◌};
-ghost use Rattle.tables.specs.Tables.{number_end, put, zeroed, token_width, node_width};
+ghost use Rattle.std.specs.Prelude.{◌≡◌, ◌<◌};
+ghost use Rattle.tables.specs.Tables.{put, token_at, zeroed};
 
 // The numbers of a token record: kind, first byte, length.
 pub const TOKEN_WIDTH: usize = 3;
@@ -15,35 +15,37 @@ pub const TOKEN_LENGTH: usize = 2;
 // The numbers of a tree record: rule, first token, one past the last token, records of the subtree.
 pub const NODE_WIDTH: usize = 4;
 
-// A number of a record, as an index or a size.
-pub fn index(number: u32) -> usize
-    ensures { (result ≡ number) × (result < number_end) }
-{
-    number as usize
+// A token record.
+#[derive(Clone, Copy, PartialEq, Eq, Debug)]
+pub struct Token {
+    pub kind: u32,
+    pub first: u32,
+    pub length: u32,
 }
 
-// One token record at record place n, where the table has that place.
-pub fn put_token(tokens: &mut [u32], n: usize, kind: u32, first: u32, length: u32)
-    ensures { tokens.new ≡ put token_width tokens.old n (kind ∷ first ∷ length ∷ []) }
-{
-    if n < tokens.len() / TOKEN_WIDTH {
-        let at = TOKEN_WIDTH * n;
-        tokens[at] = kind;
-        tokens[at + TOKEN_FIRST] = first;
-        tokens[at + TOKEN_LENGTH] = length;
+impl Token {
+    // The token record at record place n, where the table has that place.
+    pub fn at(tokens: &[u32], n: usize) -> Option<Token>
+        ensures { result ≡ token_at tokens.now n }
+    {
+        let (records, _) = tokens.as_chunks::<TOKEN_WIDTH>();
+        let found = records.get(n)?;
+        Some(Token {
+            kind: found[0],
+            first: found[TOKEN_FIRST],
+            length: found[TOKEN_LENGTH],
+        })
     }
 }
 
-// One tree record at record place n, where the table has that place.
-pub fn put_node(tree: &mut [u32], n: usize, rule: u32, first: u32, last: u32, size: u32)
-    ensures { tree.new ≡ put node_width tree.old n (rule ∷ first ∷ last ∷ size ∷ []) }
+// One record at record place n, where the table has that place.
+pub fn put<const WIDTH: usize>(table: &mut [u32], n: usize, numbers: [u32; WIDTH])
+    requires { 0 < WIDTH }
+    ensures { table.new ≡ put WIDTH table.old n numbers.entry }
 {
-    if n < tree.len() / NODE_WIDTH {
-        let at = NODE_WIDTH * n;
-        tree[at] = rule;
-        tree[at + 1] = first;
-        tree[at + 2] = last;
-        tree[at + 3] = size;
+    if n < table.len() / WIDTH {
+        let at = WIDTH * n;
+        table[at..at + WIDTH].copy_from_slice(&numbers);
     }
 }
 
@@ -51,9 +53,5 @@ pub fn put_node(tree: &mut [u32], n: usize, rule: u32, first: u32, last: u32, si
 pub fn clear(table: &mut [u32])
     ensures { table.new ≡ zeroed table.old }
 {
-    let mut i = 0;
-    while i < table.len() {
-        table[i] = 0;
-        i += 1;
-    }
+    table.fill(0);
 }

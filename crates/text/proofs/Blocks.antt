@@ -3,14 +3,15 @@
 use mathlib.Core.Path.{◌≡◌, refl, ap, sym, ◌∙◌}
 use mathlib.Core.Bool.{Bool, true, false, ◌&&◌, cond}
 use mathlib.Core.List.{List, [], ◌∷◌}
-use Prim.Native.Nat.{ℕ, zero, suc, ◌+◌, ◌≤◌, ◌<◌, min}
+use Prim.Native.Nat.{ℕ, zero, suc, ◌+◌, ◌-◌, ◌≤◌, ◌<◌, min}
 use native.Mathlib.Numerals.{add-one}
 use native.Mathlib.Omega.{arith}
 use borrow.Author.Tests.{leb-true, leb-false}
 use lib.Dec.{leb, leb-zero, leb-suc-zero, leb-suc-suc}
-use lib.ListN.{length, get_or, drop, length-drop}
+use lib.ListN.{length, get_or, take, drop, length-drop}
 use lib.Seq.{drop-drop}
 use Rattle.text.specs.Bytes.{run}
+use Rattle.text.proofs.Rests.{rest}
 use Rattle.text.proofs.Runs.{Passed, run_within}
 
 -- the first byte is looked at, or one after it
@@ -77,6 +78,11 @@ end_known m r = go (leb m r) refl
     go : (x : Bool) → leb m r ≡ x → cond x m r ≡ min m r
     go true e = let h = leb-true m r e in omega arith
     go false e = let h = leb-false m r e in omega arith
+
+-- the code's `&bs[n..]` is the rest from place n on
+pub end_in_rest : (class : ℕ → Bool) (bs : List ℕ) (n m : ℕ) {end : ℕ} → end ≡ min m (run class (take (length bs - n) (drop n bs))) →
+    end ≡ min m (run class (drop n bs))
+end_in_rest class bs n m e = e ∙ ap (λ (l : List ℕ). min m (run class l)) (rest bs n)
 
 -- one byte more is looked at: the end is at its place where the run reaches to it and no further
 module _ (m k r : ℕ) where

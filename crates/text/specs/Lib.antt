@@ -6,3 +6,4 @@ pub mod Literals
 pub mod Classes
 pub mod Lexemes
 pub mod Tokens
+pub mod Found

@@ -1,14 +1,16 @@
 -- Character and string literals: paper 01, "Character, string", which request A7 amends, and the order of faults inside one literal.
 -- Assumes nothing: these are definitions.
-use Rattle.std.specs.Prelude.{Bool, true, false, ◌&&◌, ◌||◌, cond, List, [], ◌∷◌, ℕ, zero, suc, ◌+◌, eqb, ltb, take, drop, length}
+use Rattle.std.specs.Prelude.{Bool, true, false, ◌&&◌, ◌||◌, cond, List, [], ◌∷◌, ℕ, zero, suc, ◌+◌, eqb, ltb, take, drop, length, Result, Ok, Err}
 use Prim.Native.Char.{code}
 use Rattle.kinds.specs.Kinds as kinds
 use Rattle.text.specs.Bytes.{from, at, run, octal, hexadecimal, line_end, ended}
 use Rattle.text.specs.Numbers.{either}
 use Rattle.text.specs.declared.Lexeme.{Lexeme}
-use Rattle.text.specs.declared.Lexeme.TheVariants.{Token, NoLexeme, Open, BadLiteral}
+use Rattle.text.specs.declared.Lexeme.TheVariants.{Token}
+use Rattle.text.specs.declared.Fault.{Fault}
+use Rattle.text.specs.declared.Fault.TheVariants.{NoLexeme, Open, BadLiteral}
 use Rattle.text.specs.declared.Piece.{Piece}
-use Rattle.text.specs.declared.Piece.TheVariants.{Character, Zero, Close, Unclosed, Bad}
+use Rattle.text.specs.declared.Piece.TheVariants.{Character, Zero, Close}
 
 -- bytes that stand for themselves: 32 to 126
 unfoldable pub plain : ℕ → Bool
@@ -22,9 +24,9 @@ simple b =
     eqb b (code "\""))))))))))
 
 -- where no character stands, the literal is open at byte 10, byte 13 and the end, and bad at any other byte
-unfoldable pub no_character : ℕ → Piece
+unfoldable pub no_character : ℕ → Result Piece Fault
 unfolding line_end ended
-no_character b = cond (line_end b || ended b) Unclosed Bad
+no_character b = Err (cond (line_end b || ended b) Open BadLiteral)
 
 -- how many digits stand there, up to a number
 unfoldable pub digits : (ℕ → Bool) → ℕ → List ℕ → ℕ
@@ -46,40 +48,40 @@ unfoldable pub above_377 : ℕ → List ℕ → Bool
 above_377 n bs = eqb n 3 && ltb (code "3") (at bs 0)
 
 -- one to three octal digits, at most \377
-unfoldable pub octal_escape : List ℕ → Piece
+unfoldable pub octal_escape : List ℕ → Result Piece Fault
 unfolding digits octal above_377 numbered
 octal_escape bs =
     let n = digits octal 3 bs in
-    cond (above_377 n bs) Bad (numbered 1 (take n bs))
+    cond (above_377 n bs) (Err BadLiteral) (Ok (numbered 1 (take n bs)))
 
 -- so many hex digits at most, after \x or \u; without one it is no character
-unfoldable pub hexadecimal_escape : ℕ → List ℕ → Piece
+unfoldable pub hexadecimal_escape : ℕ → List ℕ → Result Piece Fault
 unfolding digits hexadecimal no_character numbered
 hexadecimal_escape most bs =
     let n = digits hexadecimal most bs in
-    cond (eqb n 0) (no_character (at bs 0)) (numbered 2 (take n bs))
+    cond (eqb n 0) (no_character (at bs 0)) (Ok (numbered 2 (take n bs)))
 
 -- how many hex digits a letter after a backslash takes at most: \x two, \u four (wide only), any other none
 unfoldable pub hexadecimal_digits : Bool → ℕ → ℕ
 hexadecimal_digits wide b = cond (eqb b (code "x")) 2 (cond (eqb b (code "u") && wide) 4 0)
 
 -- what stands after a backslash
-unfoldable pub escape : Bool → List ℕ → Piece
+unfoldable pub escape : Bool → List ℕ → Result Piece Fault
 unfolding simple octal octal_escape hexadecimal_digits hexadecimal_escape no_character
 escape wide bs =
     let most = hexadecimal_digits wide (at bs 0) in
-    cond (simple (at bs 0)) (Character 2)
+    cond (simple (at bs 0)) (Ok (Character 2))
     (cond (octal (at bs 0)) (octal_escape bs)
     (cond (ltb 0 most) (hexadecimal_escape most (drop 1 bs))
     (no_character (at bs 0))))
 
 -- what stands next inside a literal: its closing quote, a character, or where it is open or bad
-unfoldable pub piece : Bool → ℕ → List ℕ → Piece
+unfoldable pub piece : Bool → ℕ → List ℕ → Result Piece Fault
 unfolding escape plain no_character
 piece wide quote bs =
-    cond (eqb (at bs 0) quote) Close
+    cond (eqb (at bs 0) quote) (Ok Close)
     (cond (eqb (at bs 0) (code "\\")) (escape wide (drop 1 bs))
-    (cond (plain (at bs 0)) (Character 1)
+    (cond (plain (at bs 0)) (Ok (Character 1))
     (no_character (at bs 0))))
 
 -- wide where L comes directly before
@@ -90,47 +92,44 @@ abbrev pub string_kind : Bool → ℕ
 string_kind wide = cond wide kinds.wide_string kinds.string
 
 -- a character literal that has its one character in its first n bytes, before this piece
-unfoldable pub after_character : ℕ → ℕ → Piece → Lexeme
-after_character kind n Close = Token kind (n + 1)
-after_character kind n Unclosed = Open
-after_character kind n (Character m) = BadLiteral
-after_character kind n (Zero m) = BadLiteral
-after_character kind n Bad = BadLiteral
+unfoldable pub after_character : ℕ → ℕ → Result Piece Fault → Result Lexeme Fault
+after_character kind n (Ok Close) = Ok (Token kind (n + 1))
+after_character kind n (Ok (Character m)) = Err BadLiteral
+after_character kind n (Ok (Zero m)) = Err BadLiteral
+after_character kind n (Err fault) = Err fault
 
-unfoldable pub closing : Bool → ℕ → List ℕ → Lexeme
+unfoldable pub closing : Bool → ℕ → List ℕ → Result Lexeme Fault
 unfolding piece after_character
 closing wide n bs = after_character (character_kind wide) n (piece wide (code "'") (drop n bs))
 
 -- a character literal holds exactly one
-unfoldable pub one_character : (ℕ → Lexeme) → Piece → Lexeme
-one_character more Close = BadLiteral
-one_character more Unclosed = Open
-one_character more (Character m) = more m
-one_character more (Zero m) = more m
-one_character more Bad = BadLiteral
+unfoldable pub one_character : (ℕ → Result Lexeme Fault) → Result Piece Fault → Result Lexeme Fault
+one_character more (Ok Close) = Err BadLiteral
+one_character more (Ok (Character m)) = more m
+one_character more (Ok (Zero m)) = more m
+one_character more (Err fault) = Err fault
 
 -- a character literal whose first n bytes, to its opening quote, are read
-unfoldable pub character : Bool → ℕ → List ℕ → Lexeme
+unfoldable pub character : Bool → ℕ → List ℕ → Result Lexeme Fault
 unfolding piece one_character closing
 character wide n bs = one_character (λ m. closing wide (n + m) bs) (piece wide (code "'") (drop n bs))
 
 -- what a string goes on to after its next piece; it never holds character zero
-unfoldable pub string_piece : Lexeme → (ℕ → Lexeme) → Piece → Lexeme
-string_piece closed more Close = closed
-string_piece closed more Unclosed = Open
-string_piece closed more (Character m) = more m
-string_piece closed more (Zero m) = BadLiteral
-string_piece closed more Bad = BadLiteral
+unfoldable pub string_piece : Lexeme → (ℕ → Result Lexeme Fault) → Result Piece Fault → Result Lexeme Fault
+string_piece closed more (Ok Close) = Ok closed
+string_piece closed more (Ok (Character m)) = more m
+string_piece closed more (Ok (Zero m)) = Err BadLiteral
+string_piece closed more (Err fault) = Err fault
 
 -- a string whose first n bytes are read, in as many steps at most; each takes a byte, so more steps than bytes are enough
-unfoldable pub string_in : ℕ → Bool → ℕ → List ℕ → Lexeme
+unfoldable pub string_in : ℕ → Bool → ℕ → List ℕ → Result Lexeme Fault
 unfolding piece string_piece
-string_in zero wide n bs = Open
+string_in zero wide n bs = Err Open
 string_in (suc steps) wide n bs =
     string_piece (Token (string_kind wide) (n + 1)) (λ m. string_in steps wide (n + m) bs) (piece wide (code "\"") (drop n bs))
 
 -- a string whose first n bytes, to its opening quote, are read
-unfoldable pub string : Bool → ℕ → List ℕ → Lexeme
+unfoldable pub string : Bool → ℕ → List ℕ → Result Lexeme Fault
 unfolding string_in
 string wide n bs = string_in (suc (length bs)) wide n bs
 
@@ -139,17 +138,17 @@ unfoldable pub quote : ℕ → Bool
 quote b = either (code "'") (code "\"") b
 
 -- between ' or ", after as many bytes
-unfoldable pub quoted : Bool → ℕ → List ℕ → Lexeme
+unfoldable pub quoted : Bool → ℕ → List ℕ → Result Lexeme Fault
 unfolding character string
 quoted wide before bs =
     cond (eqb (at bs before) (code "'")) (character wide (before + 1) bs)
-    (cond (eqb (at bs before) (code "\"")) (string wide (before + 1) bs) NoLexeme)
+    (cond (eqb (at bs before) (code "\"")) (string wide (before + 1) bs) (Err NoLexeme))
 
-unfoldable pub literal : List ℕ → Lexeme
+unfoldable pub literal : List ℕ → Result Lexeme Fault
 unfolding quoted
 literal bs = quoted false 0 bs
 
 -- the start of a wide literal is its L
-unfoldable pub wide_literal : List ℕ → Lexeme
+unfoldable pub wide_literal : List ℕ → Result Lexeme Fault
 unfolding quoted
 wide_literal bs = quoted true 1 bs

@@ -1,11 +1,13 @@
 -- Numbers: paper 01, "Integer", "Floating", "Fixed" and the sentence after them.
 -- Each form is the length of the longest number of that form at the front, 0 where there is none.
-use Rattle.std.specs.Prelude.{Bool, ◌&&◌, ◌||◌, cond, List, ℕ, ◌+◌, max, eqb, ltb, drop}
+use Rattle.std.specs.Prelude.{Bool, ◌&&◌, ◌||◌, cond, List, ℕ, ◌+◌, max, eqb, ltb, drop, Result, Ok, Err}
 use Prim.Native.Char.{code}
 use Rattle.kinds.specs.Kinds as kinds
 use Rattle.text.specs.Bytes.{from, at, run, digit, octal, hexadecimal, wordly}
 use Rattle.text.specs.declared.Lexeme.{Lexeme}
-use Rattle.text.specs.declared.Lexeme.TheVariants.{Token, NoLexeme, BadLiteral}
+use Rattle.text.specs.declared.Lexeme.TheVariants.{Token}
+use Rattle.text.specs.declared.Fault.{Fault}
+use Rattle.text.specs.declared.Fault.TheVariants.{NoLexeme, BadLiteral}
 
 -- a byte that is one of two
 abbrev pub either : ℕ → ℕ → ℕ → Bool
@@ -74,19 +76,19 @@ unfolding mantissa
 fixed bs = only (ltb 0 (mantissa bs) && either (code "d") (code "D") (at bs (mantissa bs))) (mantissa bs + 1)
 
 -- a number of a kind and length; directly followed by a letter, digit or underscore it is a bad literal
-unfoldable pub followed : List ℕ → ℕ → ℕ → Lexeme
+unfoldable pub followed : List ℕ → ℕ → ℕ → Result Lexeme Fault
 unfolding wordly
-followed bs kind n = cond (wordly (at bs n)) BadLiteral (Token kind n)
+followed bs kind n = cond (wordly (at bs n)) (Err BadLiteral) (Ok (Token kind n))
 
 -- the longest of the three forms, by their lengths
-unfoldable pub longest : List ℕ → ℕ → ℕ → ℕ → Lexeme
+unfoldable pub longest : List ℕ → ℕ → ℕ → ℕ → Result Lexeme Fault
 unfolding followed
 longest bs integer_size floating_size fixed_size =
     cond (ltb (max integer_size floating_size) fixed_size) (followed bs kinds.fixed fixed_size)
     (cond (ltb integer_size floating_size) (followed bs kinds.floating floating_size)
-    (cond (ltb 0 integer_size) (followed bs kinds.integer integer_size) NoLexeme))
+    (cond (ltb 0 integer_size) (followed bs kinds.integer integer_size) (Err NoLexeme)))
 
 -- a point with no digit on either side is of no form
-unfoldable pub number : List ℕ → Lexeme
+unfoldable pub number : List ℕ → Result Lexeme Fault
 unfolding integer floating fixed longest
 number bs = longest bs (integer bs) (floating bs) (fixed bs)

@@ -1,11 +1,13 @@
 -- Words: paper 01, "Word", and request A3.
 -- Assumes nothing: these are definitions.
-use Rattle.std.specs.Prelude.{Bool, true, false, ◌&&◌, cond, List, [], ◌∷◌, ◌≡◌, ℕ, suc, ◌+◌, ◌<◌, eqb, ltb, length, take, drop}
+use Rattle.std.specs.Prelude.{Bool, true, false, ◌&&◌, cond, List, [], ◌∷◌, ◌≡◌, ℕ, suc, ◌+◌, ◌<◌, eqb, ltb, length, take, drop, Result, Ok, Err}
 use Prim.Native.Char.{code}
 use Rattle.kinds.specs.Kinds.{first_keyword, keywords, nth_keyword, same, keyword, search_from, identifier}
 use Rattle.text.specs.Bytes.{from, run, wordly}
 use Rattle.text.specs.declared.Lexeme.{Lexeme}
-use Rattle.text.specs.declared.Lexeme.TheVariants.{Token, OtherCase}
+use Rattle.text.specs.declared.Lexeme.TheVariants.{Token}
+use Rattle.text.specs.declared.Fault.{Fault}
+use Rattle.text.specs.declared.Fault.TheVariants.{OtherCase}
 
 -- how far a letter in lower case stands behind its capital
 abbrev pub case_distance : ℕ
@@ -44,18 +46,18 @@ spelled bs = take (run wordly bs) bs
 
 -- a word of n bytes, spelled w: spelled exactly as a keyword it is that keyword, and one that differs from a keyword only
 -- in the case of letters is refused, with that keyword's kind
-unfoldable pub sorted : List ℕ → ℕ → Lexeme
+unfoldable pub sorted : List ℕ → ℕ → Result Lexeme Fault
 unfolding keyword keyword_but_case
 sorted w n =
-    cond (ltb 0 (keyword w)) (Token (keyword w) n)
-    (cond (ltb 0 (keyword_but_case w)) (OtherCase (keyword_but_case w)) (Token identifier n))
+    cond (ltb 0 (keyword w)) (Ok (Token (keyword w) n))
+    (cond (ltb 0 (keyword_but_case w)) (Err (OtherCase (keyword_but_case w))) (Ok (Token identifier n)))
 
 -- a letter, then letters, digits, underscores
-unfoldable pub word : List ℕ → Lexeme
+unfoldable pub word : List ℕ → Result Lexeme Fault
 unfolding spelled run wordly sorted
 word bs = sorted (spelled bs) (run wordly bs)
 
 -- an underscore before a word makes an identifier always
-unfoldable pub escaped_word : List ℕ → Lexeme
+unfoldable pub escaped_word : List ℕ → Result Lexeme Fault
 unfolding run wordly
-escaped_word bs = Token identifier (suc (run wordly (drop 1 bs)))
+escaped_word bs = Ok (Token identifier (suc (run wordly (drop 1 bs))))

@@ -5,13 +5,16 @@ use mathlib.Core.Path.{◌≡◌, refl, subst}
 use Prim.Native.Nat.{ℕ, ◌+◌, ◌≤◌, ◌<◌}
 use native.Mathlib.Nat.{le_refl, le_trans, le-add_right}
 use native.Mathlib.Omega.{arith}
+use Rattle.std.specs.Prelude.{Result, Ok, Err}
 use lib.ListN.{length, drop, length-drop}
 use Rattle.tables.specs.Tables.{token_width, Records, none as no_records, more as more_records}
 use Rattle.text.specs.Lexemes.{lexeme}
 use Rattle.text.specs.Tokens.{Tokens, tokens, token, before, then, tokens_of}
 use Rattle.text.specs.Words.{CaseAlone, spelled}
 use Rattle.text.specs.declared.Lexeme.{Lexeme}
-use Rattle.text.specs.declared.Lexeme.TheVariants.{Blank, Token, NoLexeme, Open, BadLiteral, OtherCase}
+use Rattle.text.specs.declared.Lexeme.TheVariants.{Blank, Token}
+use Rattle.text.specs.declared.Fault as declared
+use Rattle.text.specs.declared.Fault.TheVariants.{NoLexeme, Open, BadLiteral, OtherCase}
 use Rattle.tokens.specs.Order.{InOrder, none, next, Ordered, ordered, faulty}
 use Rattle.text.proofs.Sizes.{SizedOr}
 use Rattle.lexemes.proofs.Sizes.{lexeme_sized}
@@ -38,14 +41,14 @@ module _ (text : List ℕ) where
         omega (arith, h, length-drop (place + n) text, length-drop place text) in
         subst (λ (to : ℕ). Ordered (place + n) to (rest n)) e (more n)
 
-    one_lexeme : (l : Lexeme) → SizedOr (CaseAlone (spelled (drop place text))) (length (drop place text)) l → Rest place (then l place rest)
+    one_lexeme : (l : Result Lexeme declared.Fault) → SizedOr (CaseAlone (spelled (drop place text))) (length (drop place text)) l → Rest place (then l place rest)
     unfolding then
-    one_lexeme (Blank n) w = sooner (omega arith) (after n w.1)
-    one_lexeme (Token kind n) w = one_more kind w.0 (after n w.1)
-    one_lexeme NoLexeme w = faulty
-    one_lexeme Open w = faulty
-    one_lexeme BadLiteral w = faulty
-    one_lexeme (OtherCase kind) w = faulty
+    one_lexeme (Ok (Blank n)) w = sooner (omega arith) (after n w.1)
+    one_lexeme (Ok (Token kind n)) w = one_more kind w.0 (after n w.1)
+    one_lexeme (Err NoLexeme) w = faulty
+    one_lexeme (Err Open) w = faulty
+    one_lexeme (Err BadLiteral) w = faulty
+    one_lexeme (Err (OtherCase kind)) w = faulty
 
   -- the tokens of a text lie inside it in order
   pub tokens_ordered : Ordered 0 (length text) (tokens_of text)

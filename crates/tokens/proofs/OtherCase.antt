@@ -3,13 +3,16 @@
 use mathlib.Core.List.{List}
 use mathlib.Core.Path.{◌≡◌, subst}
 use Prim.Native.Nat.{ℕ}
+use Rattle.std.specs.Prelude.{Result, Ok, Err}
 use lib.ListN.{length, drop}
 use Rattle.replies.specs.Faults.{no_lexeme, left_open, bad_literal, other_case}
 use Rattle.text.specs.Lexemes.{lexeme}
 use Rattle.text.specs.Tokens.{Tokens, tokens, fault, token, before, then, tokens_of}
 use Rattle.text.specs.Words.{CaseAlone, spelled}
 use Rattle.text.specs.declared.Lexeme.{Lexeme}
-use Rattle.text.specs.declared.Lexeme.TheVariants.{Blank, Token, NoLexeme, Open, BadLiteral, OtherCase}
+use Rattle.text.specs.declared.Lexeme.TheVariants.{Blank, Token}
+use Rattle.text.specs.declared.Fault as declared
+use Rattle.text.specs.declared.Fault.TheVariants.{NoLexeme, Open, BadLiteral, OtherCase}
 use Rattle.text.proofs.Sizes.{SizedOr}
 use Rattle.lexemes.proofs.Sizes.{lexeme_sized}
 use Rattle.tokens.proofs.Lexemes.{by_lexemes}
@@ -28,15 +31,15 @@ module _ (text : List ℕ) where
   behind t (tokens ts) h = tt
   behind t (fault f) h = h
 
-  one_lexeme : (at : ℕ) (rest : ℕ → Tokens) (l : Lexeme) → SizedOr (CaseAlone (spelled (drop at text))) (length (drop at text)) l →
+  one_lexeme : (at : ℕ) (rest : ℕ → Tokens) (l : Result Lexeme declared.Fault) → SizedOr (CaseAlone (spelled (drop at text))) (length (drop at text)) l →
       ((n : ℕ) → Named (rest n)) → Named (then l at rest)
   unfolding then
-  one_lexeme at rest (Blank n) w more = more n
-  one_lexeme at rest (Token kind n) w more = behind (token kind at n) (rest n) (more n)
-  one_lexeme at rest NoLexeme w more = tt
-  one_lexeme at rest Open w more = tt
-  one_lexeme at rest BadLiteral w more = tt
-  one_lexeme at rest (OtherCase kind) w more = w
+  one_lexeme at rest (Ok (Blank n)) w more = more n
+  one_lexeme at rest (Ok (Token kind n)) w more = behind (token kind at n) (rest n) (more n)
+  one_lexeme at rest (Err NoLexeme) w more = tt
+  one_lexeme at rest (Err Open) w more = tt
+  one_lexeme at rest (Err BadLiteral) w more = tt
+  one_lexeme at rest (Err (OtherCase kind)) w more = w
 
   pub keyword_found : (place kind : ℕ) → tokens_of text ≡ fault (other_case place kind) → CaseAlone (spelled (drop place text)) kind
   keyword_found place kind e =

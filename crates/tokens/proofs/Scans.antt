@@ -6,7 +6,8 @@ use mathlib.Core.Path.{◌≡◌, refl, ap, sym, ◌∙◌}
 use Prim.Native.Nat.{ℕ, zero, suc, pred, ◌+◌, ◌-◌, ◌≤◌, ◌<◌}
 use native.Mathlib.Nat.{add-zero}
 use native.Mathlib.Omega.{arith}
-use lib.ListN.{length, drop, length-append, length-drop}
+use Rattle.std.specs.Prelude.{Result, Ok, Err}
+use lib.ListN.{length, take, drop, length-append, length-drop}
 use lib.Seq.{drop-drop, drop-length}
 use Rattle.tables.specs.Tables.{token_width, put, store}
 use Rattle.tables.proofs.Laws.{store_more, length_store}
@@ -18,8 +19,10 @@ use Rattle.text.specs.declared.Lexeme.{Lexeme}
 use Rattle.text.specs.declared.Lexeme.TheVariants.{Blank, Token}
 use Rattle.replies.specs.declared.Reply.{Reply}
 use Rattle.replies.specs.Faults.{Fault, row}
-use Rattle.tokens.specs.Answer.{Scanned, all_tokens, first_fault}
-use Rattle.tokens.specs.declared.Found.TheVariants as found
+use Rattle.tokens.specs.Answer.{Scanned, all_tokens, first_fault, fault_at}
+use Rattle.text.specs.declared.Fault as declared
+use Rattle.text.specs.declared.Fault.TheVariants.{NoLexeme, Open, BadLiteral, OtherCase}
+use Rattle.text.proofs.Rests.{rest}
 use Rattle.text.proofs.Sizes.{SizedOr}
 use Rattle.lexemes.proofs.Sizes.{lexeme_sized}
 use Rattle.lexemes.proofs.Sorting.{lexeme_space}
@@ -43,6 +46,14 @@ after_none : (ts : List (List ℕ)) → after ts (tokens []) ≡ tokens ts
 unfolding after before
 after_none [] = refl
 after_none (x ∷ ts) = ap (before x) (after_none ts)
+
+-- where no lexeme stands, nothing that follows matters
+then_fault : (f : declared.Fault) (place : ℕ) (rest : ℕ → Tokens) → then (Err f) place rest ≡ fault (fault_at place f)
+unfolding then
+then_fault NoLexeme place rest = refl
+then_fault Open place rest = refl
+then_fault BadLiteral place rest = refl
+then_fault (OtherCase kind) place rest = refl
 
 -- the rest of a text by its first lexeme
 unroll : (most place : ℕ) (bs : List ℕ) → 0 < most → 0 < length bs →
@@ -87,7 +98,7 @@ module _ (text table₀ : List ℕ) where
 
   module _ {table : List ℕ} {at n : ℕ} (h : at < length text) (r : Reading text table₀ table at n) where
     -- the whole text by the next lexeme
-    next : {l : Lexeme} → l ≡ lexeme (drop at text) →
+    next : {l : Result Lexeme declared.Fault} → l ≡ lexeme (drop at text) →
         tokens_of text ≡ after r.passed (then l at (λ k. tokens_in (pred r.most) (at + k) (drop (at + k) text)))
     next {l} e =
         let most = r.most in
@@ -97,10 +108,10 @@ module _ (text table₀ : List ℕ) where
         ∙ rw (sym e, same)
 
     -- it lies in the text
-    pub next_sized : {l : Lexeme} → l ≡ lexeme (drop at text) → SizedOr (CaseAlone (spelled (drop at text))) (length text - at) l
+    next_sized : {l : Result Lexeme declared.Fault} → l ≡ lexeme (drop at text) → SizedOr (CaseAlone (spelled (drop at text))) (length text - at) l
     next_sized {l} e = rw (e, ← length-drop at text) (lexeme_sized (drop at text) (omega (arith, length-drop at text)))
 
-    pub reading_blank : {k : ℕ} → Blank k ≡ lexeme (drop at text) → Reading text table₀ table (at + k) n
+    reading_blank : {k : ℕ} → Ok (Blank k) ≡ lexeme (drop at text) → Reading text table₀ table (at + k) n
     unfolding then
     reading_blank {k} e =
         let w = next_sized e in
@@ -115,7 +126,7 @@ module _ (text table₀ : List ℕ) where
           stored = r.stored;
         }
 
-    pub reading_token : {kind k : ℕ} → Token kind k ≡ lexeme (drop at text) →
+    reading_token : {kind k : ℕ} → Ok (Token kind k) ≡ lexeme (drop at text) →
         Reading text table₀ (put token_width table n (token kind at k)) (at + k) (n + 1)
     unfolding then
     reading_token {kind} {k} e =
@@ -131,13 +142,6 @@ module _ (text table₀ : List ℕ) where
           stored = ap (λ (t : List ℕ). put token_width t n (token kind at k)) r.stored
               ∙ sym (store_more token_width table₀ n r.passed (token kind at k) r.counted);
         }
-
-    -- a fault decides what the text is
-    pub reading_fault : {l : Lexeme} {reply : Reply} {after : List ℕ} (f : Fault) → ((rest : ℕ → Tokens) → then l at rest ≡ fault f) →
-        l ≡ lexeme (drop at text) → reply ≡ row f → Scanned (tokens_of text) table₀ after (found.Fault reply)
-    reading_fault f here e d =
-        let whole : tokens_of text ≡ fault f = next e ∙ ap (after r.passed) (here _) ∙ after_fault r.passed f in
-        rw (whole, d) (first_fault f)
 
   -- white space is passed at once
   pub reading_space : {table : List ℕ} {at n : ℕ} → Reading text table₀ table at n →
@@ -159,9 +163,41 @@ module _ (text table₀ : List ℕ) where
           pick true u = reading_blank some r (lexeme_space (drop at text) (ap (λ (l : List ℕ). space (byte l 0)) (sym e) ∙ u))
           pick false u = none (sym (ap (run space) e) ∙ rw u refl)
 
+  -- a lexeme that takes a byte at least and lies in the text; reading goes on behind it and the white space there
+  pub record Passed (at k : ℕ) (table : List ℕ) (n : ℕ) : Type 0 where
+    pub some : 0 < k
+    pub inside : at + k ≤ length text
+    pub goes_on : Reading text table₀ table (at + k + run space (drop (at + k) text)) n
+
+  -- the code is lent the rest of the text, and reads the lexeme at its front
+  module _ {table : List ℕ} {at n : ℕ} (h : at < length text) (r : Reading text table₀ table at n) where
+    front : lexeme (take (length text - at) (drop at text)) ≡ lexeme (drop at text)
+    front = ap lexeme (rest text at)
+
+    pub passes_blank : {l : Lexeme} {k : ℕ} → l ≡ Blank k → Ok l ≡ lexeme (take (length text - at) (drop at text)) → Passed at k table n
+    passes_blank {k = k} f e =
+        let read : Ok (Blank k) ≡ lexeme (drop at text) = ap Ok (sym f) ∙ e ∙ front in
+        let w = next_sized h r read in
+        record { some = w.0; inside = omega (arith, w.1); goes_on = reading_space (reading_blank h r read) }
+
+    pub passes_token : {l : Lexeme} {kind k : ℕ} → l ≡ Token kind k → Ok l ≡ lexeme (take (length text - at) (drop at text)) →
+        Passed at k (put token_width table n (token kind at k)) (n + 1)
+    passes_token {kind = kind} {k = k} f e =
+        let read : Ok (Token kind k) ≡ lexeme (drop at text) = ap Ok (sym f) ∙ e ∙ front in
+        let w = next_sized h r read in
+        record { some = w.0; inside = omega (arith, w.1); goes_on = reading_space (reading_token h r read) }
+
+    -- a fault decides what the text is
+    pub stops : {f : declared.Fault} {reply : Reply} {after : List ℕ} → Err f ≡ lexeme (take (length text - at) (drop at text)) →
+        reply ≡ row (fault_at at f) → Scanned (tokens_of text) table₀ after (Err reply)
+    stops {f} e d =
+        let whole : tokens_of text ≡ fault (fault_at at f) =
+        next h r (e ∙ front) ∙ ap (after r.passed) (then_fault f at _) ∙ after_fault r.passed (fault_at at f) in
+        rw (whole, d) (first_fault (fault_at at f))
+
   -- and so does the end of the text
   pub reading_ends : {table : List ℕ} {at n : ℕ} → length text ≤ at → Reading text table₀ table at n →
-      Scanned (tokens_of text) table₀ table (found.Tokens n)
+      Scanned (tokens_of text) table₀ table (Ok n)
   reading_ends {table} {at} {n} h r =
       let e : at ≡ length text = omega (arith, r.within) in
       let d : drop at text ≡ [] = ap (λ (k : ℕ). drop k text) e ∙ drop-length text in

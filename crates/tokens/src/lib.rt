@@ -5,33 +5,23 @@ ghost use Rattle.std.specs.Prelude.{◌≡◌, ◌+◌, ◌≤◌, ◌<◌, leng
 ghost use Rattle.tables.specs.Tables.{number_end};
 ghost use Rattle.text.specs.Bytes.{at, run, space};
 ghost use Rattle.text.specs.Tokens.{tokens_of};
-ghost use Rattle.tokens.specs.Answer.{Scanned, token_reply, token_table};
+ghost use Rattle.replies.specs.Faults.{row};
+ghost use Rattle.tokens.specs.Answer.{Scanned, fault_at, token_reply, token_table};
 
 use lexemes::lexeme;
 use limits::Limits;
 use replies::Reply;
-use tables::{TOKEN_WIDTH, clear, put_token};
-use text::Lexeme;
-
-// What the whole text is: so many tokens, or its first fault.
-#[derive(Drop)]
-pub enum Found {
-    Tokens(usize),
-    Fault(Reply),
-}
+use tables::{TOKEN_WIDTH, clear, put};
+use text::{Class, Fault, Lexeme, Space};
 
 // Whether white space stands at a place. Most bytes that are asked for are above it, so these are told at once.
 fn is_space_at(text: &[u8], place: usize) -> bool
     ensures { result ≡ space (at text.now place) }
 {
-    if place < text.len() {
-        let byte = text[place];
-        if b' ' < byte {
-            return false;
-        }
-        return text::is_space(byte);
+    match text::byte_at(text, place) {
+        Some(byte) if byte <= b' ' => Space::has(byte),
+        _ => false,
     }
-    false
 }
 
 // The place behind the white space that stands at a place: mostly none or one byte, otherwise a row of them.
@@ -48,30 +38,38 @@ fn past_space(text: &[u8], place: usize) -> usize
     place + text::space_run(&text[place..])
 }
 
-// Reads the whole text. The records go into the table while it has room; counting goes on when it is full.
-fn scan(text: &[u8], tokens: &mut [u32]) -> Found
+// The reply to a fault at a place.
+fn fault_reply(fault: Fault, place: u32) -> Reply
+    ensures { result ≡ row (fault_at place fault) }
+{
+    match fault {
+        Fault::NoLexeme => Reply::no_lexeme(place),
+        Fault::Open => Reply::left_open(place),
+        Fault::BadLiteral => Reply::bad_literal(place),
+        Fault::OtherCase(kind) => Reply::other_case(place, kind),
+    }
+}
+
+// How many tokens the text has, or the reply to its first fault. The records go into the table while it has room; counting
+// goes on when it is full.
+fn scan(text: &[u8], tokens: &mut [u32]) -> Result<usize, Reply>
     requires { length text.now < number_end }
     ensures { Scanned (tokens_of text.now) tokens.old tokens.new result }
 {
-    let words = words::words();
     let mut at = 0;
     let mut count = 0;
     while at < text.len() {
-        let found = lexeme(&words, &text[at..]);
-        match found {
-            Lexeme::Blank(size) => at = past_space(text, at + size),
-            Lexeme::Token(kind, size) => {
-                put_token(tokens, count, kind, at as u32, size as u32);
+        match lexeme(&text[at..]) {
+            Ok(Lexeme::Blank(size)) => at = past_space(text, at + size),
+            Ok(Lexeme::Token(kind, size)) => {
+                put(tokens, count, [kind, at as u32, size as u32]);
                 count += 1;
                 at = past_space(text, at + size);
             }
-            Lexeme::NoLexeme => return Found::Fault(Reply::no_lexeme(at as u32)),
-            Lexeme::Open => return Found::Fault(Reply::left_open(at as u32)),
-            Lexeme::BadLiteral => return Found::Fault(Reply::bad_literal(at as u32)),
-            Lexeme::OtherCase(kind) => return Found::Fault(Reply::other_case(at as u32, kind)),
+            Err(fault) => return Err(fault_reply(fault, at as u32)),
         }
     }
-    Found::Tokens(count)
+    Ok(count)
 }
 
 // The token part. The text is read for its faults before the table's room counts.
@@ -82,18 +80,17 @@ pub fn read_tokens(text: &[u8], tokens: &mut [u32]) -> Reply
     if !Limits::takes(text.len()) {
         return Reply::outside_limits();
     }
-    let found = scan(text, tokens);
-    match found {
-        Found::Fault(reply) => {
-            clear(tokens);
-            reply
-        }
-        Found::Tokens(count) => {
+    match scan(text, tokens) {
+        Ok(count) => {
             if count <= tokens.len() / TOKEN_WIDTH {
                 return Reply::accepted(text.len() as u32, count as u32, 0);
             }
             clear(tokens);
             Reply::more_tokens(text.len() as u32, count as u32)
+        }
+        Err(reply) => {
+            clear(tokens);
+            reply
         }
     }
 }

@@ -5,16 +5,15 @@ use mathlib.Core.Path.{◌≡◌, refl, sym, ◌∙◌}
 use mathlib.Core.Bool.{Bool, true, false, ◌&&◌, true≢false}
 use mathlib.Core.List.{List}
 use native.Mathlib.Omega.{arith}
+use Rattle.std.specs.Prelude.{Some, None}
 use borrow.Author.Tests.{le-leb, lt-leb, leb-true}
 use lib.Dec.{leb}
 use lib.ListN.{length, take}
 use lib.Seq.{length-take-le}
 use Rattle.grammar.specs.Rule.{Edition}
 use Rattle.limits.specs.declared.Limits.{Limits}
-use Rattle.limits.specs.declared.Bounded.{Bounded}
-use Rattle.limits.specs.declared.Bounded.TheVariants.{Good, Beyond}
 use Rattle.limits.specs.Limits.{text_ceiling, good_call, bounded}
-use Rattle.limits.proofs.Laws.{text_good, beyond_bad, within_good}
+use Rattle.limits.proofs.Laws.{text_good, none_bad, some_good}
 use Rattle.prediction.specs.plans.Plan.{call}
 use Rattle.replies.specs.declared.Reply.{Reply}
 use Rattle.replies.specs.Replies.{outside_limits}
@@ -37,9 +36,8 @@ module _ (tokens : List ℕ) (count text : ℕ) (tree : List ℕ) (setting : ℕ
         TreeAnswered E tokens count text tree setting reply tree
     refused b e = record { outside = λ u. (e, refl); inside = λ u. absurd (true≢false (sym u ∙ b)) }
 
-    pub beyond : {r : Bounded} {reply : Reply} → r ≡ bounded text setting → r ≡ Beyond → reply ≡ outside_limits →
-        TreeAnswered E tokens count text tree setting reply tree
-    beyond a b e = refused (rw (beyond_bad text setting a b)) e
+    pub beyond : {reply : Reply} → None ≡ bounded text setting → reply ≡ outside_limits → TreeAnswered E tokens count text tree setting reply tree
+    beyond a e = refused (rw (none_bad text setting a)) e
 
     pub too_many : {reply : Reply} → capacity token_width tokens < count → reply ≡ outside_limits →
         TreeAnswered E tokens count text tree setting reply tree
@@ -52,10 +50,9 @@ module _ (tokens : List ℕ) (count text : ℕ) (tree : List ℕ) (setting : ℕ
         (rw (lt-leb count text h, and_false (leb count (capacity token_width tokens))) (and_false (good_call text setting))) e
 
   -- a good call
-  module _ {r : Bounded} {l : Limits} (a : r ≡ bounded text setting) (b : r ≡ Good l) (few : count ≤ capacity token_width tokens)
-      (inside : count ≤ text) where
+  module _ {l : Limits} (a : Some l ≡ bounded text setting) (few : count ≤ capacity token_width tokens) (inside : count ≤ text) where
     good : good_call text setting ≡ true
-    good = within_good text setting a b
+    good = some_good text setting a
 
     pub text_small : text ≤ text_ceiling
     text_small = leb-true text text_ceiling (text_good text setting good)

@@ -7,7 +7,7 @@ ghost use Rattle.grammar.specs.Idl.{idl};
 ghost use Rattle.readers_core.specs.Reading.{view};
 ghost use Rattle.meaning.specs.Calls.{TreeAnswered};
 
-use limits::{Bounded, Limits};
+use limits::Limits;
 use readers_core::{Reading, has_stopped, is_too_deep, place, records};
 use readers_specification::specification;
 use replies::Reply;
@@ -56,8 +56,7 @@ fn conclude(list: &[u32], count: u32, text: u32, tree: &mut [u32], state: Readin
 pub fn read_tree(tokens: &[u32], count: usize, text: usize, tree: &mut [u32], depth: u32) -> Reply
     ensures { TreeAnswered idl tokens.now count text tree.old depth result tree.new }
 {
-    let limits = Limits::new(text, depth);
-    let Bounded::Good(_) = limits else {
+    let Some(_) = Limits::new(text, depth) else {
         return Reply::outside_limits();
     };
     if tokens.len() / TOKEN_WIDTH < count {

@@ -1,6 +1,6 @@
--- The rules of the keyword table, each by one test that antt computes: numbers, kinds, keywords, spellings, next rows, index, few near, no two alike.
+-- The rules of the keyword table, each by one test that antt computes: kinds, keywords, spellings, next rows, first rows, few near, no two alike.
 -- A law of intervals turns the test into the rule at each row. Assumes nothing.
-use mathlib.Core.Path.{◌≡◌, refl, ap, sym}
+use mathlib.Core.Path.{◌≡◌, refl, ap, sym, subst, ◌∙◌}
 use mathlib.Core.Bool.{Bool, true, false, ◌&&◌, ◌||◌}
 use mathlib.Core.List.{List, [], ◌∷◌}
 use Prim.Native.Nat.{ℕ, zero, suc, ◌+◌, ◌-◌, ◌*◌, ◌≤◌, ◌<◌}
@@ -10,43 +10,22 @@ use lib.Dec.{T, eqb, leb, ltb, eqb→eq, leb→le, ltb→lt}
 use lib.ListN.{length, get_or, take, drop}
 use mir.Syntax.{w64}
 use mir.Val.{Fits}
+use Rattle.std.proofs.lemmas.List.{get_or_default}
 use Rattle.kinds.specs.Kinds.{first_keyword, keywords, nth_keyword, keyword, same}
 use Rattle.text.specs.Bytes.{at, from}
 use Rattle.text.specs.Words.{lower, same_but_case, keyword_but_case}
 use Rattle.text.proofs.Ranges.{agree, agreed, and_left, and_right, every, every_at, or_else, within}
 use Rattle.words.specs.Search.{filter, data_only, by_edition, near, near_to, most_near}
 use Rattle.words.specs.Comparison.{byte_end, all_letters}
-use Rattle.words.specs.Table.{first_from, place_of, table, spelling, data_only_rows, First}
-use Rattle.words.specs.Table.{row_count, kind_place, next_place, row_size, shortest, longest, length_count}
-use Rattle.words.specs.Table.{first_letter, last_letter, letter_count, origin, table_size}
+use Rattle.words.specs.Table.{first_from, spelling, data_only_rows, First}
+use Rattle.words.specs.Table.{row_count, shortest, longest, length_count}
+use Rattle.words.specs.Table.{first_letter, last_letter, letter_count}
+use Rattle.words.specs.declared.keywords.Keyword.{Keyword}
+use Rattle.words.specs.declared.keywords.TheConstants.{KEYWORDS, FIRST_ROWS}
 use Rattle.words.proofs.Letters.{from_holds}
 use Rattle.words.proofs.Spellings.{unless, either, same_equal, near_length, near_letter}
 use Rattle.words.proofs.Comparing.{AllBytes}
 use Rattle.words.proofs.Filter.{filter_none}
-
-pub table_length : length table ≡ table_size
-unfolding table
-table_length = refl
-
--- its numbers are bytes
-abbrev below : List ℕ → Bool
-below [] = true
-below (b ∷ bs) = ltb b byte_end && below bs
-
-each_below : (bs : List ℕ) → T (below bs) → AllBytes bs
-each_below [] t i = omega arith
-each_below (b ∷ bs) t zero = ltb→lt b byte_end (and_left (ltb b byte_end) (below bs) t)
-each_below (b ∷ bs) t (suc i) = each_below bs (and_right (ltb b byte_end) (below bs) t) i
-
-bytes_right : T (below table)
-unfolding table
-bytes_right = tt
-
-pub byte_at : AllBytes table
-byte_at = each_below table bytes_right
-
-pub byte_fits : {words : List ℕ} → words ≡ table → (i : ℕ) → Fits w64 (get_or words i 0)
-byte_fits e i = rw e (omega (arith, byte_at i))
 
 pub row_words : length by_edition ≡ row_count
 unfolding by_edition
@@ -64,13 +43,20 @@ own_numbers = tt
 pub own_number : {k : ℕ} → k < row_count → keyword_but_case (nth_keyword k) ≡ first_keyword + k
 own_number h = eqb→eq _ _ (at_row (λ k. eqb (keyword_but_case (nth_keyword k)) (first_keyword + k)) own_numbers h)
 
+-- the entry of a row, whatever stands for none beyond the last
+abbrev entry : ℕ → Keyword
+entry i = get_or KEYWORDS i (0, [], 0)
+
+entry_at : {i : ℕ} (none : Keyword) → i < row_count → get_or KEYWORDS i none ≡ entry i
+entry_at {i} none h = get_or_default KEYWORDS i none (0, [], 0) (omega arith)
+
 -- a row holds the kind of its spelling,
-kinds_right : T (every (λ i. eqb (get_or table (i * row_size + kind_place) 0) (keyword (spelling i))) 0 row_count)
-unfolding table spelling by_edition keyword
+kinds_right : T (every (λ i. eqb (entry i).0 (keyword (spelling i))) 0 row_count)
+unfolding spelling by_edition keyword
 kinds_right = tt
 
-pub kind_at : {i : ℕ} → i < row_count → get_or table (i * row_size + kind_place) 0 ≡ keyword (spelling i)
-kind_at h = eqb→eq _ _ (at_row (λ i. eqb (get_or table (i * row_size + kind_place) 0) (keyword (spelling i))) kinds_right h)
+pub kind_at : {i : ℕ} (none : Keyword) → i < row_count → (get_or KEYWORDS i none).0 ≡ keyword (spelling i)
+kind_at {i} none h = rw (entry_at none h) (eqb→eq _ _ (at_row (λ i. eqb (entry i).0 (keyword (spelling i))) kinds_right h))
 
 -- which is its kind with the case of letters aside, too,
 case_kinds_right : T (every (λ i. eqb (keyword_but_case (spelling i)) (keyword (spelling i))) 0 row_count)
@@ -127,14 +113,14 @@ keyword_at {i} h = listed nth_keyword keywords (spelling i) (at_row (λ j. lists
 
 -- a row starts with its spelling
 abbrev spelled_right : ℕ → Bool
-spelled_right i = same (take (length (spelling i)) (drop (i * row_size) table)) (spelling i)
+spelled_right i = same (take (length (spelling i)) (entry i).1) (spelling i)
 
 spellings_right : T (every spelled_right 0 row_count)
-unfolding table spelling by_edition
+unfolding spelling by_edition
 spellings_right = tt
 
-pub spelling_at : {i : ℕ} → i < row_count → take (length (spelling i)) (drop (i * row_size) table) ≡ spelling i
-spelling_at {i} h = same_equal _ _ (sym (within spelled_right true 0 row_count spellings_right i (omega arith, h)))
+pub spelling_at : {i : ℕ} (none : Keyword) → i < row_count → take (length (spelling i)) (get_or KEYWORDS i none).1 ≡ spelling i
+spelling_at {i} none h = rw (entry_at none h) (same_equal _ _ (sym (within spelled_right true 0 row_count spellings_right i (omega arith, h))))
 
 -- a spelling has letters alone
 letters_right : T (every (λ i. agree true (all_letters (spelling i))) 0 row_count)
@@ -197,14 +183,14 @@ first_holds test i r t =
 
 -- a row holds the next row near it
 abbrev next_right : ℕ → Bool
-next_right i = first (near_to (spelling i)) (suc i) (get_or table (i * row_size + next_place) 0)
+next_right i = first (near_to (spelling i)) (suc i) (entry i).2
 
 nexts_right : T (every next_right 0 row_count)
-unfolding table spelling by_edition first near lower
+unfolding spelling by_edition first near lower
 nexts_right = tt
 
-pub next_at : {i : ℕ} → i < row_count → First (near_to (spelling i)) (suc i) (get_or table (i * row_size + next_place) 0)
-next_at {i} h = first_holds _ _ _ (at_row next_right nexts_right h)
+pub next_at : {i : ℕ} (none : Keyword) → i < row_count → First (near_to (spelling i)) (suc i) (get_or KEYWORDS i none).2
+next_at {i} none h = rw (entry_at none h) (first_holds _ _ _ (at_row next_right nexts_right h))
 
 -- what a test says at every letter and length
 abbrev each_entry : (ℕ → ℕ → Bool) → Bool
@@ -215,19 +201,32 @@ at_entry test t {letter} {n} b =
     let line = every_at (λ l. every (test l) shortest length_count) first_letter letter_count t {k = letter} b.a_on (omega arith) in
     every_at (test letter) shortest length_count line {k = n} b.long_enough (omega arith)
 
--- the index holds the first row for a letter and a length
-abbrev place : ℕ → ℕ → ℕ
-place letter n = origin + (place_of letter * length_count + n)
+-- the first row for a letter and a length
+abbrev line : ℕ → List ℕ
+line letter = get_or FIRST_ROWS (letter - first_letter) []
 
 abbrev entry_right : ℕ → ℕ → Bool
-entry_right letter n = first (near letter n) 0 (get_or table (place letter n) 0)
+entry_right letter n = first (near letter n) 0 (get_or (line letter) (n - shortest) 0)
 
 index_right : T (each_entry entry_right)
-unfolding table spelling by_edition first near lower
+unfolding spelling by_edition first near lower
 index_right = tt
 
-pub index_at : {letter n : ℕ} → Bounded letter n → First (near letter n) 0 (get_or table (place letter n) 0)
-index_at b = first_holds _ _ _ (at_entry entry_right index_right b)
+lines_long : T (every (λ letter. eqb (length (line letter)) length_count) first_letter letter_count)
+lines_long = tt
+
+pub index_at : {letter n : ℕ} (i : ℕ) (no_line : List ℕ) (none : ℕ) → Bounded letter n → i + first_letter ≡ letter →
+    First (near letter n) 0 (get_or (get_or FIRST_ROWS i no_line) (n - shortest) none)
+index_at {letter} {n} i no_line none b e =
+    let place : i ≡ letter - first_letter = omega arith in
+    let long = eqb→eq _ _ (every_at (λ l. eqb (length (line l)) length_count) first_letter letter_count lines_long {k = letter} b.a_on (omega (arith, b.to_z))) in
+    rw (place, get_or_default FIRST_ROWS (letter - first_letter) no_line [] (omega (arith, b.to_z)),
+    get_or_default (line letter) (n - shortest) none 0 (omega (arith, long, b.long_enough, b.short_enough)))
+    (first_holds _ _ _ (at_entry entry_right index_right b))
+
+-- a row past the last is no row
+pub first_none : {test : List ℕ → Bool} {i r : ℕ} → i ≤ row_count → row_count ≤ r → First test i r → First test i row_count
+first_none h l f = record { onward = h; none = λ j a b m. f.none j a (omega arith) m; there = λ m. absurd (omega arith) }
 
 -- no row is near a letter or a length that the index lacks
 none_out : (letter n : ℕ) → (T (bounded letter n) → ⊥) → {j : ℕ} → j < row_count → near letter n (spelling j) ≡ false

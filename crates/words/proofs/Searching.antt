@@ -8,19 +8,23 @@ use Prim.Native.String.{String}
 use native.Mathlib.Nat.{zero-add}
 use native.Mathlib.Omega.{arith}
 use lib.ListN.{length, get_or, drop, drop_of_length-le}
+use Rattle.std.specs.Prelude.{Option, Some, None, MatchOption, Result, Ok, Err}
 use Rattle.kinds.specs.Kinds.{keyword, same, identifier}
 use Rattle.text.specs.Bytes.{at}
 use Rattle.text.specs.Words.{lower, same_but_case}
 use Rattle.text.specs.declared.Lexeme.{Lexeme}
-use Rattle.text.specs.declared.Lexeme.TheVariants.{Token, OtherCase}
+use Rattle.text.specs.declared.Fault.{Fault}
+use Rattle.text.specs.declared.Lexeme.TheVariants.{Token}
+use Rattle.text.specs.declared.Fault.TheVariants.{OtherCase}
 use Rattle.words.specs.Search.{filter, by_edition, near_to, near_keywords, most_near, sorted_among, comparisons}
 use Rattle.words.specs.Comparison.{likeness}
 use Rattle.words.specs.Table.{row_count, spelling, First}
-use Rattle.words.specs.declared.Likeness.{Likeness}
-use Rattle.words.specs.declared.Likeness.TheVariants.{Same, ButCase, Different}
+use Rattle.words.specs.declared.keywords.Row.{Row}
+use Rattle.words.specs.declared.comparison.Likeness.{Likeness}
+use Rattle.words.specs.declared.comparison.Likeness.TheVariants.{Same, ButCase, Different}
 use Rattle.words.proofs.Spellings.{same_case, near_length, near_letter}
 use Rattle.words.proofs.Filter.{filter_behind, filter_from}
-use Rattle.words.proofs.Rules.{row_words}
+use Rattle.words.proofs.Rules.{row_words, first_none}
 use Rattle.words.proofs.Sorting.{met, met_but_case, passed, last_compared, one_compared, sorted_end, none_compared, few}
 
 -- what an answer of a comparison tells
@@ -38,6 +42,23 @@ told : (w v : List ℕ) {r : Likeness} → r ≡ likeness w v → Told (same w v
 unfolding likeness
 told w v e = subst (Told (same w v) (same_but_case w v)) (sym e) (answer (same w v) (same_but_case w v))
 
+-- the row that the search stands at; the end of the table where there is none
+abbrev pub place : Option Row → ℕ
+place None = row_count
+place (Some row) = row.number
+
+pub first_place : {test : List ℕ → Bool} {i : ℕ} (near : Option Row) →
+    MatchOption near (First test i row_count) (λ row. First test i row.number) → First test i (place near)
+first_place None f = f
+first_place (Some row) f = f
+
+-- the row of a number that the table says is the first
+pub row_of : {test : List ℕ → Bool} {i number : ℕ} (near : Option Row) → i ≤ row_count →
+    MatchOption near (row_count ≤ number) (λ row. row.number ≡ number) → First test i number →
+    MatchOption near (First test i row_count) (λ row. First test i row.number)
+row_of None h l f = first_none h l f
+row_of (Some row) h e f = rw e f
+
 -- the keywords near a word, from a row on
 abbrev left : List ℕ → ℕ → List String
 left w row = filter (near_to w) (drop row by_edition)
@@ -49,8 +70,17 @@ pub record Searching (w : List ℕ) (row compared : ℕ) : Type 0 where
   pub each_once : compared + length (left w row) ≡ length (near_keywords w)
   pub there : row < row_count → near_to w (spelling row) ≡ true
 
+-- at a row
+pub at_row : {w : List ℕ} {near : Option Row} {row : Row} {compared : ℕ} → near ≡ Some row → Searching w (place near) compared →
+    Searching w row.number compared
+at_row {w} {row = row} {compared = compared} e s = subst (λ (near : Option Row). Searching w (place near) compared) e s
+
+pub no_row : (near : Option Row) → ((row : Row) → near ≡ Some row → ⊥) → row_count ≤ place near
+no_row None h = omega arith
+no_row (Some row) h = absurd (h row refl)
+
 -- what the search has come to
-abbrev pub Found : List ℕ → Lexeme → ℕ → Type 0
+abbrev pub Found : List ℕ → Result Lexeme Fault → ℕ → Type 0
 Found w r compared = (r ≡ sorted_among w (near_keywords w)) × (compared ≡ comparisons w (near_keywords w))
 
 module _ (w : List ℕ) where
@@ -74,7 +104,7 @@ module _ (w : List ℕ) where
     unfolding filter
     nothing h = rw (drop_of_length-le by_edition {i = row} (omega (arith, row_words)))
 
-    pub ended : row_count ≤ row → Found w (Token identifier (length w)) compared
+    pub ended : row_count ≤ row → Found w (Ok (Token identifier (length w))) compared
     ended h = (
       sym (sorted_end w) ∙ ap (sorted_among w) (sym (nothing h)) ∙ s.answers,
       omega (arith, s.counts, none_compared w, ap (comparisons w) (nothing h)),
@@ -95,7 +125,7 @@ module _ (w : List ℕ) where
       pub room : compared < most_near
       room = omega (arith, s.each_once, ap length front, few w)
 
-      pub found_same : Same ≡ likeness w (spelling row) → Found w (Token (keyword (spelling row)) (length w)) (compared + 1)
+      pub found_same : Same ≡ likeness w (spelling row) → Found w (Ok (Token (keyword (spelling row)) (length w))) (compared + 1)
       unfolding spelling
       found_same e =
           let t = told w (spelling row) e in
@@ -104,7 +134,7 @@ module _ (w : List ℕ) where
             omega (arith, s.counts, ap (comparisons w) front, last_compared w this others u),
           )
 
-      pub found_but_case : ButCase ≡ likeness w (spelling row) → Found w (OtherCase (keyword (spelling row))) (compared + 1)
+      pub found_but_case : ButCase ≡ likeness w (spelling row) → Found w (Err (OtherCase (keyword (spelling row)))) (compared + 1)
       unfolding spelling
       found_but_case e =
           let t = told w (spelling row) e in (

@@ -8,10 +8,12 @@ use native.Mathlib.Omega.{arith}
 use borrow.Author.Tests.{ltb-true, ltb-false}
 use lib.Dec.{ltb}
 use lib.ListN.{length, drop, length-drop}
+use Rattle.std.specs.Prelude.{Ok, Err}
 use Rattle.kinds.specs.Kinds.{keyword, identifier}
 use Rattle.text.specs.Bytes.{at, run, letter, wordly}
 use Rattle.text.specs.Words.{keyword_but_case, CaseAlone, spelled, sorted, word, escaped_word}
-use Rattle.text.specs.declared.Lexeme.TheVariants.{Token, OtherCase}
+use Rattle.text.specs.declared.Lexeme.TheVariants.{Token}
+use Rattle.text.specs.declared.Fault.TheVariants.{OtherCase}
 use Rattle.text.proofs.Runs.{run_within}
 use Rattle.text.proofs.Sizes.{SizedOr, Sized}
 use Rattle.words.proofs.OtherCase.{case_alone}
@@ -23,7 +25,7 @@ begun [] e = absurd (false≢true e)
 begun (b ∷ bs) e = rw e (omega arith)
 
 either_sized : (Case : ℕ → Type 0) (a b : Bool) (k j i : ℕ) {n most : ℕ} → (0 < n) × (n ≤ most) → (a ≡ false → b ≡ true → Case j) →
-    SizedOr Case most (cond a (Token k n) (cond b (OtherCase j) (Token i n)))
+    SizedOr Case most (cond a (Ok (Token k n)) (cond b (Err (OtherCase j)) (Ok (Token i n))))
 either_sized Case true b k j i h c = h
 either_sized Case false true k j i h c = c refl refl
 either_sized Case false false k j i h c = h

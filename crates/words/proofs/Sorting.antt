@@ -12,10 +12,12 @@ use borrow.Author.Tests.{ltb-true, lt-ltb, eqb-true}
 use lib.Dec.{ltb}
 use lib.ListN.{length, get_or, drop, drop_of_length-le}
 use lib.Seq.{drop-cons}
+use Rattle.std.specs.Prelude.{Ok, Err}
 use Rattle.kinds.specs.Kinds.{bytes, keywords, first_keyword, nth_keyword, keyword, search_from, same, identifier}
 use Rattle.text.specs.Bytes.{at}
 use Rattle.text.specs.Words.{lower, same_but_case, keyword_but_case, sorted}
-use Rattle.text.specs.declared.Lexeme.TheVariants.{Token, OtherCase}
+use Rattle.text.specs.declared.Lexeme.TheVariants.{Token}
+use Rattle.text.specs.declared.Fault.TheVariants.{OtherCase}
 use Rattle.words.specs.Search.{filter, by_edition, near_to, near_keywords, most_near, sorted_among, comparisons}
 use Rattle.words.specs.Table.{row_count, spelling}
 use Rattle.words.proofs.Spellings.{unless, either, same_equal, same_case, case_near, case_like, near_length, near_letter}
@@ -47,11 +49,11 @@ module _ (w : List ℕ) where
 
   -- one keyword more before some: the word is it, is it but for case, or is another
   module _ (v : String) (vs : List String) where
-    pub met : same w (bytes v) ≡ true → sorted_among w (v ∷ vs) ≡ Token (keyword (bytes v)) (length w)
+    pub met : same w (bytes v) ≡ true → sorted_among w (v ∷ vs) ≡ Ok (Token (keyword (bytes v)) (length w))
     unfolding sorted_among
     met e = rw e
 
-    pub met_but_case : same w (bytes v) ≡ false → same_but_case w (bytes v) ≡ true → sorted_among w (v ∷ vs) ≡ OtherCase (keyword (bytes v))
+    pub met_but_case : same w (bytes v) ≡ false → same_but_case w (bytes v) ≡ true → sorted_among w (v ∷ vs) ≡ Err (OtherCase (keyword (bytes v)))
     unfolding sorted_among
     met_but_case e f = rw (e, f)
 
@@ -68,7 +70,7 @@ module _ (w : List ℕ) where
     unfolding comparisons
     one_compared f = rw f
 
-  pub sorted_end : sorted_among w [] ≡ Token identifier (length w)
+  pub sorted_end : sorted_among w [] ≡ Ok (Token identifier (length w))
   unfolding sorted_among
   sorted_end = refl
 
@@ -129,7 +131,7 @@ module _ (w : List ℕ) where
       (λ e. rw e (far_passed vs ∙ sym (passed v vs (not_near (bytes v) e))))
 
   -- a word that is no keyword, case aside
-  sorted_none : ((j : ℕ) → j < row_count → same_but_case w (spelling j) ≡ false) → Token identifier (length w) ≡ sorted w (length w)
+  sorted_none : ((j : ℕ) → j < row_count → same_but_case w (spelling j) ≡ false) → Ok (Token identifier (length w)) ≡ sorted w (length w)
   unfolding sorted keyword keyword_but_case
   sorted_none none =
       rw (no_keyword same w (λ j h. not_same (spelling j) (none j h)), no_keyword same_but_case w none)
@@ -141,7 +143,7 @@ module _ (w : List ℕ) where
 
   module _ {r : ℕ} (h : r < row_count) where
     -- one that is spelled as a row
-    sorted_same : same w (spelling r) ≡ true → Token (keyword (spelling r)) (length w) ≡ sorted w (length w)
+    sorted_same : same w (spelling r) ≡ true → Ok (Token (keyword (spelling r)) (length w)) ≡ sorted w (length w)
     unfolding sorted
     sorted_same e =
         rw (same_equal w (spelling r) e, lt-ltb 0 (keyword (spelling r)) (some_kind h))
@@ -158,7 +160,7 @@ module _ (w : List ℕ) where
             let one : j ≡ r = eqb-true j r (distinct_at h l ∙ alike) in
             false≢true (sym e ∙ ap (λ (i : ℕ). same w (spelling i)) (sym one) ∙ s)
 
-    sorted_but_case : same w (spelling r) ≡ false → same_but_case w (spelling r) ≡ true → OtherCase (keyword (spelling r)) ≡ sorted w (length w)
+    sorted_but_case : same w (spelling r) ≡ false → same_but_case w (spelling r) ≡ true → Err (OtherCase (keyword (spelling r))) ≡ sorted w (length w)
     unfolding sorted
     sorted_but_case e f =
         let k : keyword_but_case w ≡ keyword (spelling r) = case_kind (spelling r) f ∙ case_kind_at h in
@@ -167,8 +169,8 @@ module _ (w : List ℕ) where
     sorted_found : (v : String) (vs : List String) → bytes v ≡ spelling r → same_but_case w (spelling r) ≡ true →
         sorted_among w (v ∷ vs) ≡ sorted w (length w)
     sorted_found v vs s f =
-        either (same w (spelling r)) (λ e. met v vs (rw s e) ∙ ap (λ (u : List ℕ). Token (keyword u) (length w)) s ∙ sorted_same e)
-        (λ e. met_but_case v vs (rw s e) (rw s f) ∙ ap (λ (u : List ℕ). OtherCase (keyword u)) s ∙ sorted_but_case e f)
+        either (same w (spelling r)) (λ e. met v vs (rw s e) ∙ ap (λ (u : List ℕ). Ok (Token (keyword u) (length w))) s ∙ sorted_same e)
+        (λ e. met_but_case v vs (rw s e) (rw s f) ∙ ap (λ (u : List ℕ). Err (OtherCase (keyword u))) s ∙ sorted_but_case e f)
 
   -- from a row on, where the word is none of the rows before it, case aside
   from_row : (left k : ℕ) → k + left ≡ row_count → ((j : ℕ) → j < k → same_but_case w (spelling j) ≡ false) →

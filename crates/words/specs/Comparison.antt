@@ -5,8 +5,8 @@ use Rattle.std.specs.Int.Bits.{bit_or}
 use Rattle.kinds.specs.Kinds.{same}
 use Rattle.text.specs.Bytes.{letter}
 use Rattle.text.specs.Words.{same_but_case}
-use Rattle.words.specs.declared.Likeness.{Likeness}
-use Rattle.words.specs.declared.Likeness.TheVariants.{Same, ButCase, Different}
+use Rattle.words.specs.declared.comparison.Likeness.{Likeness}
+use Rattle.words.specs.declared.comparison.Likeness.TheVariants.{Same, ButCase, Different}
 
 -- the bytes that are compared at once
 abbrev pub at_once : ℕ

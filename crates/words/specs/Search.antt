@@ -1,12 +1,14 @@
 -- The search for a word among the keywords, and which of them it is compared with in full: request A2.
 -- Assumes nothing: these are definitions.
-use Rattle.std.specs.Prelude.{Bool, not, ◌&&◌, cond, List, [], ◌∷◌, ◌++◌, ℕ, suc, eqb, ltb, length}
+use Rattle.std.specs.Prelude.{Bool, not, ◌&&◌, cond, List, [], ◌∷◌, ◌++◌, ℕ, suc, eqb, ltb, length, Result, Ok, Err}
 use Prim.Native.String.{String}
 use Rattle.kinds.specs.Kinds.{bytes, first_keyword, keywords, data_only_keywords, keyword, search_from, same, identifier}
 use Rattle.text.specs.Bytes.{at}
 use Rattle.text.specs.Words.{lower, same_but_case}
 use Rattle.text.specs.declared.Lexeme.{Lexeme}
-use Rattle.text.specs.declared.Lexeme.TheVariants.{Token, OtherCase}
+use Rattle.text.specs.declared.Lexeme.TheVariants.{Token}
+use Rattle.text.specs.declared.Fault.{Fault}
+use Rattle.text.specs.declared.Fault.TheVariants.{OtherCase}
 
 -- the spellings that pass a test
 unfoldable pub filter : (List ℕ → Bool) → List String → List String
@@ -40,11 +42,11 @@ abbrev pub most_near : ℕ
 most_near = 3
 
 -- a word sorted among some keywords: it is compared with each in turn, up to the first that it is, case aside
-unfoldable pub sorted_among : List ℕ → List String → Lexeme
-sorted_among w [] = Token identifier (length w)
+unfoldable pub sorted_among : List ℕ → List String → Result Lexeme Fault
+sorted_among w [] = Ok (Token identifier (length w))
 sorted_among w (v ∷ vs) =
-    cond (same w (bytes v)) (Token (keyword (bytes v)) (length w))
-    (cond (same_but_case w (bytes v)) (OtherCase (keyword (bytes v))) (sorted_among w vs))
+    cond (same w (bytes v)) (Ok (Token (keyword (bytes v)) (length w)))
+    (cond (same_but_case w (bytes v)) (Err (OtherCase (keyword (bytes v)))) (sorted_among w vs))
 
 -- with how many of them it is compared
 unfoldable pub comparisons : List ℕ → List String → ℕ

@@ -2,6 +2,7 @@
 -- The search of */ stays in the rest after the two bytes, so the sum fits. Assumes nothing.
 use mathlib.Core.Path.{◌≡◌, refl, ap, sym, ◌∙◌}
 use Prim.Native.Nat.{ℕ, zero, suc, ◌+◌}
+use Rattle.std.specs.Prelude.{Ok}
 use native.Mathlib.Omega.{arith}
 use lib.ListN.{drop, length-drop}
 use Rattle.text.specs.Blanks.{to_close, closed, block_comment}
@@ -25,7 +26,7 @@ pub returns-then-size-eq0 : goal.returns-then-size-eq0
 unfolding block_comment closed
 returns-then-size-eq0 c = ap closed (sym c.if-size-eq0.true ∙ found c.before.before)
 
-closed_some : (n : ℕ) → (n ≡ 0 → ⊥) → Blank (2 + n) ≡ closed n
+closed_some : (n : ℕ) → (n ≡ 0 → ⊥) → Ok (Blank (2 + n)) ≡ closed n
 unfolding closed
 closed_some zero h = absurd (h refl)
 closed_some (suc n) h = refl

@@ -2,6 +2,9 @@
 -- A run stays in the rest after the two bytes, so the sum fits. Assumes nothing.
 use mathlib.Core.Path.{ap}
 use Prim.Native.Nat.{ℕ, ◌+◌}
+use Rattle.std.specs.Prelude.{Result, Ok}
+use Rattle.text.specs.declared.Lexeme.{Lexeme}
+use Rattle.text.specs.declared.Fault.{Fault}
 use native.Mathlib.Omega.{arith}
 use Rattle.text.specs.Blanks.{line_comment}
 use Rattle.text.specs.Bytes.{in_line}
@@ -17,7 +20,7 @@ ran c = counted _ _ c.requires c.line_run.ensures
 
 pub returns : goal.returns
 unfolding line_comment
-returns c = ap (λ (n : ℕ). Blank (2 + n)) (ran c.before).is_run
+returns c = ap (λ (n : ℕ). Ok (Blank (2 + n))) (ran c.before).is_run
 
 pub overflow_add-result : goal.overflow_add-result
 overflow_add-result c = omega (arith, (ran c.before).fits)

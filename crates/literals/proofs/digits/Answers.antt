@@ -1,23 +1,24 @@
--- `literals::digits` meets its contract: the digits in a row among the first bytes.
--- Where there are fewer bytes than digits asked for, the first bytes are all. Assumes nothing.
-use mathlib.Core.Path.{sym, ap, ◌∙◌}
+-- `literals::digits` meets its contract: the digits in a row among so many first bytes.
+-- So many bytes, or all where there are fewer, and of them the run: it is no longer than they are. Assumes nothing.
+use mathlib.Core.Path.{◌≡◌}
+use mathlib.Core.Bool.{Bool}
+use mathlib.Core.List.{List}
+use Prim.Native.Nat.{ℕ}
 use native.Mathlib.Omega.{arith}
-use lib.ListN.{length-take}
-use lib.Seq.{take_all}
+use lib.ListN.{take, length-take}
+use Rattle.std.proofs.lemmas.List.{take-take, take_min}
 use Rattle.text.specs.Bytes.{run}
-use Rattle.text.specs.Classes.{member}
 use Rattle.text.specs.Literals.{digits}
+use Rattle.text.proofs.Runs.{run_within}
 use Rattle.literals.proofs.digits.Goals as goal
 
-pub slice_bounds-run_of-end : goal.slice_bounds-run_of-end
-slice_bounds-run_of-end c = simp length-take (omega arith)
+-- the run among the first bytes is the run of the text, cut
+first : (class : ℕ → Bool) (most : ℕ) (bs : List ℕ) → take (run class (take most bs)) (take most bs) ≡ take (run class (take most bs)) bs
+first class most bs = take-take (run class (take most bs)) most bs (omega (arith, run_within class (take most bs), length-take most bs))
 
-pub returns-then-most-bs : goal.returns-then-most-bs
-unfolding digits
-returns-then-most-bs c = c.run_of.ensures
+pub slice_bounds-result-end : goal.slice_bounds-result-end
+slice_bounds-result-end g c = omega (arith, run_within g.C.Class.member, length-take {A = ℕ})
 
-pub returns-else-most-bs : goal.returns-else-most-bs
+pub returns : goal.returns
 unfolding digits
-returns-else-most-bs c =
-    let args = c.args in
-    c.run_of-else-most-bs.ensures ∙ sym (ap (run (member args.class)) (take_all args.most args.bs.now c.if-most-bs.false))
+returns g c = grind (arith, take_min c.args.most c.args.bs.now, first g.C.Class.member c.args.most c.args.bs.now)

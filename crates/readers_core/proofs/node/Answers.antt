@@ -23,13 +23,12 @@ returns c =
     let records2 = c.records-size in
     let low_start = c.low in
     let low_end = c.low-2 in
-    let put_node = c.put_node in
     let low : (view args.state).count < ceiling = omega (arith, if2.false) in
     record {
       wraps = λ is ks d hs t.
           recorded_node is t (goes_on args.state if1.false) low (counted_goes args.state low)
           (counted_at args.state low) (counted_count args.state low)
-          (λ le le'. put_node.ensures ∙ write_below args.tree.now args.rule low records.ensures
+          (λ le le'. c.put.ensures ∙ write_below args.tree.now args.rule low records.ensures
           (low_start.ensures ∙ started_at args.state low args.start le')
           (low_end.ensures ∙ sym (going_at args.state if1.false))
           (records2.ensures ∙ counted_since args.state low args.start le' le (omega arith) wrapping_sub_u64.ensures.value));

@@ -2,12 +2,11 @@
 use Prim.Native.Nat.{◌-◌, ◌≤◌}
 use mathlib.Core.Path.{◌≡◌}
 use Rattle.text.specs.Bytes.{run}
-use Rattle.text.specs.Classes.{member}
 use Rattle.text.proofs.Blocks.{end_so_far}
 use Rattle.text.proofs.end_in_window.Given as goal
 
 abbrev pub invariant-loop-at : goal.invariant-loop-at
-invariant-loop-at l = (l.at ≤ l.size) × (l.end ≡ end_so_far l.size l.at (run (member l.class) l.text))
+invariant-loop-at g l = (l.at ≤ l.size) × (l.end ≡ end_so_far l.size l.at (run g.C.Class.member l.text))
 
 abbrev pub decreases-loop-at : goal.decreases-loop-at
-decreases-loop-at l = l.size - l.at
+decreases-loop-at g l = l.size - l.at

@@ -5,20 +5,19 @@ use mathlib.Core.Path.{ap, ◌∙◌}
 use native.Mathlib.Omega.{arith}
 use lib.Dec.{leb}
 use Rattle.text.specs.Bytes.{run}
-use Rattle.text.specs.Classes.{member}
 use Rattle.text.proofs.Blocks.{reaches_start, reaches_more}
 use Rattle.text.proofs.fills_block.Goals as goal
 
 pub loop-place-preserved : goal.loop-place-preserved
-loop-place-preserved c =
+loop-place-preserved g c =
     let turn = c.before.before.before.before in
-    (omega arith, reaches_more _ _ turn.loop-place.place (omega arith) turn.loop-place.invariant.1 c.is_in-all.ensures)
+    (omega arith, reaches_more _ _ turn.loop-place.place (omega arith) turn.loop-place.invariant.1 c.has-all.ensures)
 
 pub returns : goal.returns
-returns c =
+returns g c =
     let args = c.args in
     let loop = c.loop-place in
-    loop.invariant.1 ∙ ap (λ (k : ℕ). leb k (run (member args.class) args.text.now)) (omega (arith, loop.invariant.0))
+    loop.invariant.1 ∙ ap (λ (k : ℕ). leb k (run g.C.Class.member args.text.now)) (omega (arith, loop.invariant.0))
 
 pub loop-place-init : goal.loop-place-init
-loop-place-init c = (omega arith, reaches_start _ _)
+loop-place-init g c = (omega arith, reaches_start _ _)

@@ -3,20 +3,11 @@
 use Prim.Native.Nat.{ℕ, ◌+◌}
 use mathlib.Core.Path.{ap}
 use native.Mathlib.Omega.{arith}
-use Rattle.text.specs.Classes.{member}
-use Rattle.text.proofs.Rests.{Counted, counted}
-use Rattle.text.proofs.past_run.Tie as tie
-use Rattle.text.proofs.past_run.Lts as lts
-use Rattle.text.proofs.past_run.Reads as reads
+use Rattle.text.proofs.Rests.{counted}
 use Rattle.text.proofs.past_run.Goals as goal
 
-passed : (c : lts.After-run_of tie.the-claims reads.Pre reads.Post) →
-    let args = c.args in
-    Counted (member args.class) args.text.now args.at c.run_of.result
-passed c = counted _ _ c.requires c.run_of.ensures
-
 pub returns : goal.returns
-returns c = ap (λ (n : ℕ). c.args.at + n) (passed c.before).is_run
+returns g c = ap (λ (n : ℕ). c.args.at + n) (counted _ _ c.requires c.run_of.ensures).is_run
 
 pub overflow_add-result : goal.overflow_add-result
-overflow_add-result c = omega (arith, (passed c.before).fits)
+overflow_add-result g c = let turn = c.before in omega (arith, (counted _ _ turn.requires turn.run_of.ensures).fits)

@@ -8,23 +8,23 @@ use borrow.Author.Tests.{leb-true}
 use lib.Dec.{leb}
 use lib.ListN.{length, drop, length-drop}
 use Rattle.text.specs.Bytes.{run}
-use Rattle.text.specs.Classes.{member, block}
+use Rattle.text.specs.Classes.{block}
 use Rattle.text.proofs.Blocks.{passed_block}
 use Rattle.text.proofs.Rests.{rest}
 use Rattle.text.proofs.Runs.{passed_none}
 use Rattle.text.proofs.run_by_blocks.Goals as goal
 
 pub fills_block-requires : goal.fills_block-requires
-fills_block-requires c =
+fills_block-requires g c =
     let text = c.args.text.now in
     let n = c.loop-passed.passed in
     omega (arith, ap length (rest text n), length-drop n text, c.loop-passed-test.true)
 
 pub loop-passed-preserved : goal.loop-passed-preserved
-loop-passed-preserved c =
+loop-passed-preserved g c =
     let turn = c.before.before.before.before.before in
     let args = turn.args in
-    let class = member args.class in
+    let class = g.C.Class.member in
     let n = turn.loop-passed.passed in
     let fills =
     sym (ap (λ (l : List ℕ). leb block (run class l)) (rest args.text.now n)) ∙ sym c.fills_block.ensures
@@ -32,13 +32,13 @@ loop-passed-preserved c =
     passed_block class args.text.now (leb-true block (run class (drop n args.text.now)) fills) turn.loop-passed.invariant
 
 pub returns : goal.returns
-returns c = c.past_run.ensures ∙ sym c.loop-passed.invariant.so_far
+returns g c = c.past_run.ensures ∙ sym c.loop-passed.invariant.so_far
 
 pub loop-passed-init : goal.loop-passed-init
-loop-passed-init c = passed_none _ _
+loop-passed-init g c = passed_none _ _
 
 pub overflow_sub-text : goal.overflow_sub-text
-overflow_sub-text c = c.loop-passed.invariant.within
+overflow_sub-text g c = c.loop-passed.invariant.within
 
 pub past_run-requires : goal.past_run-requires
-past_run-requires c = c.loop-passed.invariant.within
+past_run-requires g c = c.loop-passed.invariant.within

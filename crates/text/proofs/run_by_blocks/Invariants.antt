@@ -1,12 +1,11 @@
 -- `text::run_by_blocks` meets its contract. The loop's invariant: the bytes passed are of the class.
 use Prim.Native.Nat.{◌-◌}
 use lib.ListN.{length}
-use Rattle.text.specs.Classes.{member}
 use Rattle.text.proofs.Runs.{Passed}
 use Rattle.text.proofs.run_by_blocks.Given as goal
 
 abbrev pub invariant-loop-passed : goal.invariant-loop-passed
-invariant-loop-passed l = Passed (member l.class) l.text l.passed
+invariant-loop-passed g l = Passed g.C.Class.member l.text l.passed
 
 abbrev pub decreases-loop-passed : goal.decreases-loop-passed
-decreases-loop-passed l = length l.text - l.passed
+decreases-loop-passed g l = length l.text - l.passed

@@ -5,17 +5,17 @@ use Rattle.text.proofs.Runs.{passed_none, passed_more, passed_stop, passed_all}
 use Rattle.text.proofs.run_of.Goals as goal
 
 pub loop-size-init : goal.loop-size-init
-loop-size-init c = passed_none _ _
+loop-size-init g c = passed_none _ _
 
-pub returns-then-not-is_in : goal.returns-then-not-is_in
-returns-then-not-is_in c =
-    passed_stop _ _ c.loop-size-test.true (sym c.is_in.ensures ∙ c.if-not-is_in.true)
+pub returns-then-not-has : goal.returns-then-not-has
+returns-then-not-has g c =
+    passed_stop _ _ c.loop-size-test.true (sym c.has.ensures ∙ c.if-not-has.true)
     c.loop-size.invariant
 
 pub loop-size-preserved : goal.loop-size-preserved
-loop-size-preserved c =
-    passed_more _ _ c.loop-size-test.true (sym c.is_in.ensures ∙ c.if-not-is_in.false)
+loop-size-preserved g c =
+    passed_more _ _ c.loop-size-test.true (sym c.has.ensures ∙ c.if-not-has.false)
     c.loop-size.invariant
 
 pub returns : goal.returns
-returns c = passed_all _ _ c.loop-size-test.false c.loop-size.invariant
+returns g c = passed_all _ _ c.loop-size-test.false c.loop-size.invariant

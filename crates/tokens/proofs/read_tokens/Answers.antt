@@ -17,8 +17,8 @@ returns-then-not-takes c =
     let r = refused c.args.text.now c.args.tokens.now (sym c.takes.ensures ∙ c.if-not-takes.true) in
     record { reply = c.outside_limits.ensures ∙ r.0; table = r.1 }
 
-pub scan-found-requires : goal.scan-found-requires
-scan-found-requires c = short (length c.args.text.now) (sym c.takes.ensures ∙ c.if-not-takes.false)
+pub scan-requires : goal.scan-requires
+scan-requires c = short (length c.args.text.now) (sym c.takes.ensures ∙ c.if-not-takes.false)
 
 -- a text that was read
 pub overflow_cast-text : goal.overflow_cast-text
@@ -27,28 +27,28 @@ overflow_cast-text c = omega (arith, short (length c.args.text.now) (sym c.takes
 pub overflow_cast-count : goal.overflow_cast-count
 overflow_cast-count c =
     let good = sym c.takes.ensures ∙ c.if-not-takes.false in
-    omega (arith, short (length c.args.text.now) good, few _ c.args.tokens.now good (rw c.in-Tokens.is at c.scan-found.ensures))
+    omega (arith, short (length c.args.text.now) good, few _ c.args.tokens.now good c.in-Ok.ensures)
 
 pub returns-then-count-tokens : goal.returns-then-count-tokens
 returns-then-count-tokens c =
-    let r = room_answered _ _ (sym c.takes.ensures ∙ c.if-not-takes.false) (rw c.in-Tokens.is at c.scan-found.ensures) (omega (arith, c.scan-found.auto.tokens)) in
+    let r = room_answered _ _ (sym c.takes.ensures ∙ c.if-not-takes.false) c.in-Ok.ensures (omega (arith, c.scan.auto.tokens)) in
     record { reply = c.accepted.ensures ∙ r.0; table = r.1 }
 
-pub overflow_cast-text-in-Tokens : goal.overflow_cast-text-in-Tokens
-overflow_cast-text-in-Tokens c = omega (arith, short (length c.args.text.now) (sym c.takes.ensures ∙ c.if-not-takes.false))
+pub overflow_cast-text-in-Ok : goal.overflow_cast-text-in-Ok
+overflow_cast-text-in-Ok c = omega (arith, short (length c.args.text.now) (sym c.takes.ensures ∙ c.if-not-takes.false))
 
-pub overflow_cast-count-in-Tokens : goal.overflow_cast-count-in-Tokens
-overflow_cast-count-in-Tokens c =
+pub overflow_cast-count-in-Ok : goal.overflow_cast-count-in-Ok
+overflow_cast-count-in-Ok c =
     let good = sym c.takes.ensures ∙ c.if-not-takes.false in
-    omega (arith, short (length c.args.text.now) good, few _ c.args.tokens.now good (rw c.in-Tokens.is at c.scan-found.ensures))
+    omega (arith, short (length c.args.text.now) good, few _ c.args.tokens.now good c.in-Ok.ensures)
 
-pub returns-in-Fault : goal.returns-in-Fault
-returns-in-Fault c =
-    let r = fault_answered _ _ (sym c.takes.ensures ∙ c.if-not-takes.false) (rw c.in-Fault.is at c.scan-found.ensures) in
-    record { reply = r.0; table = c.clear.ensures ∙ ap zeros c.scan-found.auto.tokens ∙ r.1 }
+pub returns-in-Err : goal.returns-in-Err
+returns-in-Err c =
+    let r = fault_answered _ _ (sym c.takes.ensures ∙ c.if-not-takes.false) c.in-Err.ensures in
+    record { reply = r.0; table = c.clear-in-Err.ensures ∙ ap zeros c.scan.auto.tokens ∙ r.1 }
 
 pub returns-else-count-tokens : goal.returns-else-count-tokens
 returns-else-count-tokens c =
-    let kept = c.scan-found.auto.tokens in
-    let r = full_answered _ _ (sym c.takes.ensures ∙ c.if-not-takes.false) (rw c.in-Tokens.is at c.scan-found.ensures) (omega (arith, kept)) in
-    record { reply = c.more_tokens.ensures ∙ r.0; table = c.clear-in-Tokens.ensures ∙ ap zeros kept ∙ r.1 }
+    let kept = c.scan.auto.tokens in
+    let r = full_answered _ _ (sym c.takes.ensures ∙ c.if-not-takes.false) c.in-Ok.ensures (omega (arith, kept)) in
+    record { reply = c.more_tokens.ensures ∙ r.0; table = c.clear.ensures ∙ ap zeros kept ∙ r.1 }

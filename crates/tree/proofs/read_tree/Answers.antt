@@ -11,7 +11,7 @@ use Rattle.tree.proofs.read_tree.Goals as goal
 pub returns-in_default : goal.returns-in_default
 returns-in_default c =
     beyond c.args.tokens.now c.args.count c.args.text c.args.tree.now
-    c.args.depth idl c.new-limits.ensures c.in_default.is c.outside_limits.ensures
+    c.args.depth idl c.in_default.ensures c.outside_limits.ensures
 
 pub returns-then-tokens-count : goal.returns-then-tokens-count
 returns-then-tokens-count c =
@@ -28,28 +28,25 @@ slice_bounds-list-end c = sym (length-take-le _ _ (omega arith))
 
 pub specification-end-requires : goal.specification-end-requires
 specification-end-requires c =
-    list_short c.args.tokens.now c.args.count c.args.text c.args.tree.now c.args.depth c.new-limits.ensures
-    c.in-Good.is c.if-tokens-count.false (omega arith)
+    list_short c.args.tokens.now c.args.count c.args.text c.args.tree.now c.args.depth c.in-Some.ensures c.if-tokens-count.false (omega arith)
 
 pub overflow_cast-count : goal.overflow_cast-count
 overflow_cast-count c =
     omega (
       arith,
-      text_small c.args.tokens.now c.args.count c.args.text c.args.tree.now c.args.depth c.new-limits.ensures
-          c.in-Good.is c.if-tokens-count.false (omega arith),
+      text_small c.args.tokens.now c.args.count c.args.text c.args.tree.now c.args.depth c.in-Some.ensures c.if-tokens-count.false (omega arith),
     )
 
 pub overflow_cast-text : goal.overflow_cast-text
 overflow_cast-text c =
     omega (
       arith,
-      text_small c.args.tokens.now c.args.count c.args.text c.args.tree.now c.args.depth c.new-limits.ensures
-          c.in-Good.is c.if-tokens-count.false (omega arith),
+      text_small c.args.tokens.now c.args.count c.args.text c.args.tree.now c.args.depth c.in-Some.ensures c.if-tokens-count.false (omega arith),
     )
 
 pub returns : goal.returns
 unfolding idl
 returns c =
-    answered c.args.tokens.now c.args.count c.args.text c.args.tree.now c.args.depth c.new-limits.ensures c.in-Good.is
+    answered c.args.tokens.now c.args.count c.args.text c.args.tree.now c.args.depth c.in-Some.ensures
     c.if-tokens-count.false (omega arith) one (λ r. refl) c.specification-end.auto.tree c.specification-end.ensures
     c.conclude.ensures.reply c.conclude.ensures.table

@@ -5,6 +5,7 @@ use Prim.Native.Nat.{ℕ, ◌+◌}
 use native.Mathlib.Numerals.{add-one}
 use native.Mathlib.Omega.{arith}
 use lib.ListN.{drop, length-drop}
+use Rattle.std.specs.Prelude.{Ok}
 use Rattle.kinds.specs.Kinds.{identifier}
 use Rattle.text.specs.Bytes.{run, wordly}
 use Rattle.text.specs.Words.{escaped_word}
@@ -27,4 +28,4 @@ overflow_add-result c =
 
 pub returns : goal.returns
 unfolding escaped_word
-returns c = ap (Token identifier) (ap (λ (n : ℕ). n + 1) (counted c.before) ∙ add-one _)
+returns c = ap (λ (n : ℕ). Ok (Token identifier n)) (ap (λ (n : ℕ). n + 1) (counted c.before) ∙ add-one _)

@@ -1,11 +1,11 @@
 -- `words::search` meets its contract. The loop's invariant: what is left of the near keywords from this row on, and how many came before.
 use Prim.Native.Nat.{◌-◌}
 use Rattle.words.specs.Table.{row_count}
-use Rattle.words.proofs.Searching.{Searching}
+use Rattle.words.proofs.Searching.{Searching, place}
 use Rattle.words.proofs.search.Given as goal
 
-abbrev pub invariant-loop-row : goal.invariant-loop-row
-invariant-loop-row l = Searching l.word l.row l.compared
+abbrev pub invariant-loop-near : goal.invariant-loop-near
+invariant-loop-near l = Searching l.word (place l.near) l.compared
 
-abbrev pub decreases-loop-row : goal.decreases-loop-row
-decreases-loop-row l = row_count - l.row
+abbrev pub decreases-loop-near : goal.decreases-loop-near
+decreases-loop-near l = row_count - place l.near
