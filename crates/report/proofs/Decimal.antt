@@ -1,6 +1,7 @@
 -- What std writes for a 32-bit number is the number in decimal digits, as the definition has it, and those are ten at most.
 -- By induction on the digits: a number of two or more digits has one more than its tenth part. Assumes nothing.
-use Rattle.std.proofs.Common.{◌≡◌, ℕ, zero, suc, ◌/◌, ◌%◌, ◌^◌, ◌<◌, ◌≤◌, Bool, true, false, cond, List, [], ◌∷◌, ◌++◌, refl, sym, ◌∙◌, arith, length, append_assoc, append-nil}
+use Rattle.std.proofs.Common.{◌≡◌, ℕ, zero, suc, ◌/◌, ◌%◌, ◌^◌, ◌<◌, ◌≤◌}
+use Rattle.std.proofs.Common.{Bool, true, false, cond, List, [], ◌∷◌, ◌++◌, refl, sym, ◌∙◌, arith, length, append_assoc, append-nil}
 use Rattle.std.specs.Fmt.{decimal, digits, digits_onto}
 use native.Mathlib.Nat.{pow-succ'}
 use borrow.Author.Tests.{eq-eqb, ne_eqb, ltb-true, ltb-false}
@@ -14,13 +15,15 @@ one_digit k n list low =
     let none : n / base ≡ 0 = omega arith in
     simp (eq-eqb _ _ none)
 
-more_digits : (k n : ℕ) (list : List ℕ) → base ≤ n → digits_onto (suc k) base false n list ≡ digits_onto k base false (n / base) (hex_digit_ascii (n % base) ∷ list)
+more_digits : (k n : ℕ) (list : List ℕ) → base ≤ n →
+    digits_onto (suc k) base false n list ≡ digits_onto k base false (n / base) (hex_digit_ascii (n % base) ∷ list)
 more_digits k n list high =
     let some : n / base ≡ 0 → ⊥ = λ e. omega arith in
     simp (ne_eqb _ _ some)
 
 spelled_by : (b : Bool) (k n w : ℕ) (list : List ℕ) → ltb n base ≡ b →
-    (base ≤ n → digits_onto k base false (n / base) (hex_digit_ascii (n % base) ∷ list) ≡ last_digits base w (n / base) ++ hex_digit_ascii (n % base) ∷ list) →
+    (base ≤ n → digits_onto k base false (n / base) (hex_digit_ascii (n % base) ∷ list) ≡
+    last_digits base w (n / base) ++ hex_digit_ascii (n % base) ∷ list) →
     digits_onto (suc k) base false n list ≡ last_digits base (cond b 1 (suc w)) n ++ list
 spelled_by true k n w list e rest = one_digit k n list (ltb-true _ _ e)
 spelled_by false k n w list e rest =

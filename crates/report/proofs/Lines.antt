@@ -1,9 +1,10 @@
 -- A line of numbers as it is put, number by number, and the lines of a tree, record by record.
 -- By the definitions. Assumes nothing.
-use Rattle.std.proofs.Common.{◌≡◌, ℕ, zero, suc, ◌+◌, ◌*◌, ◌<◌, ◌≤◌, Bool, true, false, cond, List, [], ◌∷◌, ◌++◌, refl, sym, subst, arith, length, take, drop, append_assoc}
+use Rattle.std.proofs.Common.{◌≡◌, ℕ, zero, suc, ◌+◌, ◌*◌, ◌<◌, ◌≤◌}
+use Rattle.std.proofs.Common.{Bool, true, false, cond, List, [], ◌∷◌, ◌++◌, refl, sym, subst, arith, length, take, drop, append_assoc}
 use lib.ListN.{get_or, length-append, length-take, length-drop}
 use lib.Seq.{drop-cons, take-append_seam, drop-append_seam}
-use borrow.Author.Tests.{eq-eqb, ne_eqb, leb-true, le-leb, lt-leb}
+use borrow.Author.Tests.{leb-true, le-leb, lt-leb}
 use lib.Dec.{eqb, leb}
 use Rattle.kinds.specs.Kinds.{bytes}
 use Rattle.replies.specs.declared.Reply.{Reply}
@@ -98,12 +99,3 @@ either_most false r tree =
 pub report_most : (r : Reply) (tree : List ℕ) → length (report r tree) ≤ first_line_size + number_size * length tree
 unfolding report
 report_most r tree = either_most (eqb r.number replies.accepted_number) r tree
-
--- the report by its first number
-pub reports_acceptance : (r : Reply) (tree : List ℕ) → r.number ≡ replies.accepted_number → report r tree ≡ acceptance r tree
-unfolding report
-reports_acceptance r tree e = simp (eq-eqb _ _ e)
-
-pub reports_refusal : (r : Reply) (tree : List ℕ) → (r.number ≡ replies.accepted_number → ⊥) → report r tree ≡ refusal r
-unfolding report
-reports_refusal r tree e = simp (ne_eqb _ _ e)

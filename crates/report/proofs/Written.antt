@@ -21,6 +21,9 @@ writes_both {page} part rest first second = record {
   written = second.written ∙ ap (λ (l : List ℕ). l ++ rest) first.written ∙ append_assoc (take page.size page.out.now) part rest;
 }
 
+-- what a text of two parts needs
+pub ruleset parts = (front_fits, rest_fits, writes_both)
+
 -- in a loop: what is written and what is left are the whole
 pub record Left (start page : Page) (rest whole : List ℕ) : Type 0 where
   pub before : List ℕ

@@ -40,6 +40,7 @@ impl<'a> Page<'a> {
     }
 
     // A number, and the byte that stands after it.
+    #[tactic(auto, using(crate::proofs::Decimal::spelled, crate::proofs::Written::parts))]
     fn put_number(&mut self, n: u32, after: u8)
         requires { Fits self.old (number n ++ after ∷ []) }
         ensures same_reference { self.new.out.ghost_name ≡ self.old.out.ghost_name }
@@ -74,6 +75,7 @@ impl<'a> Page<'a> {
         }
     }
 
+    #[tactic(auto, using(crate::proofs::Written::parts), unfolding(crate::specs::Report::refusal))]
     fn put_refusal(&mut self, reply: Reply)
         requires { Fits self.old (refusal reply) }
         ensures same_reference { self.new.out.ghost_name ≡ self.old.out.ghost_name }
@@ -83,6 +85,7 @@ impl<'a> Page<'a> {
         self.put_line(&[reply.number, reply.place, reply.tokens, reply.records]);
     }
 
+    #[tactic(auto, using(crate::proofs::Written::parts), unfolding(crate::specs::Report::acceptance))]
     fn put_acceptance(&mut self, reply: Reply, tree: &[u32])
         requires { Fits self.old (acceptance reply tree.now) }
         ensures same_reference { self.new.out.ghost_name ≡ self.old.out.ghost_name }
@@ -93,6 +96,7 @@ impl<'a> Page<'a> {
         self.put_records(tree, reply.records);
     }
 
+    #[tactic(auto, unfolding(crate::specs::Report::report))]
     fn put_report(&mut self, reply: Reply, tree: &[u32])
         requires { Fits self.old (report reply tree.now) }
         ensures same_reference { self.new.out.ghost_name ≡ self.old.out.ghost_name }
@@ -107,6 +111,7 @@ impl<'a> Page<'a> {
 }
 
 // The whole report, from the start of a slice that has room for any tree of this table.
+#[tactic(auto, using(crate::proofs::Lines::report_most))]
 pub fn put_report(out: &mut [u8], reply: Reply, tree: &[u32]) -> usize
     requires { first_line_size + number_size * length tree.now ≤ length out.old }
     ensures written { take result out.new ≡ report reply tree.now }
