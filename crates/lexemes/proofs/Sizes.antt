@@ -15,6 +15,7 @@ use Rattle.text.specs.Lexemes.{mark, lexeme, starts}
 use Rattle.text.specs.Literals.{literal, wide_literal}
 use Rattle.text.specs.Numbers.{number}
 use Rattle.text.specs.Words.{CaseAlone, spelled, escaped_word}
+use Rattle.std.specs.Prelude.{Ok}
 use Rattle.text.specs.declared.Lexeme.TheVariants.{Blank}
 use Rattle.text.proofs.Choices.{both}
 use Rattle.text.proofs.Rests.{byte_inside}
@@ -27,7 +28,7 @@ use Rattle.numbers.proofs.Within.{number_sized}
 use Rattle.words.proofs.Sizes.{word_sized, escaped_word_sized}
 use Rattle.lexemes.proofs.Sorts.{by_sort}
 
-space_sized : (bs : List ℕ) → 0 < length bs → space (at bs 0) ≡ true → Sized (length bs) (Blank (run space bs))
+space_sized : (bs : List ℕ) → 0 < length bs → space (at bs 0) ≡ true → Sized (length bs) (Ok (Blank (run space bs)))
 unfolding run
 space_sized [] h e = absurd (omega arith)
 space_sized (b ∷ bs) h e = let l = run_within space (b ∷ bs) in (rw e (omega arith), l)

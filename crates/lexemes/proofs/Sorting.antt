@@ -16,10 +16,20 @@ use Rattle.text.specs.Lexemes.{lexeme, mark}
 use Rattle.text.specs.Literals.{quote, literal, wide_literal}
 use Rattle.text.specs.Numbers.{number}
 use Rattle.text.specs.Words.{word, escaped_word}
-use Rattle.text.specs.declared.Lexeme.TheVariants.{Blank, Token, NoLexeme}
+use Rattle.std.specs.Prelude.{Option, Some, None, Ok, Err}
+use Rattle.std.specs.Option.{unwrap_or}
+use Rattle.text.specs.declared.Lexeme.TheVariants.{Blank, Token}
+use Rattle.text.specs.declared.Fault.TheVariants.{NoLexeme}
 use Rattle.marks.specs.Starts.{starts_mark}
 use Rattle.marks.proofs.Starts.{no_other, no_mark}
 use Rattle.lexemes.specs.Fronts.{slash, wide, underscore}
+
+-- the byte that stands at a place, and the end where none does
+pub second : {found : Option ℕ} {b byte : ℕ} → unwrap_or found end ≡ b → found ≡ Some byte → b ≡ byte
+second e is = sym e ∙ ap (λ (b : Option ℕ). unwrap_or b end) is
+
+pub no_second : {found : Option ℕ} {b : ℕ} → unwrap_or found end ≡ b → found ≡ None → b ≡ end
+no_second e is = sym e ∙ ap (λ (b : Option ℕ). unwrap_or b end) is
 
 -- a byte that a class decides: the start of a mark, a letter, a digit, or none of these
 pub record Plain (b : ℕ) : Type 0 where
@@ -63,7 +73,7 @@ unfolding letter
 no_letter_wide e q = false≢true (sym e ∙ ap letter q)
 
 module _ (bs : List ℕ) where
-  pub lexeme_space : space (at bs 0) ≡ true → Blank (run space bs) ≡ lexeme bs
+  pub lexeme_space : space (at bs 0) ≡ true → Ok (Blank (run space bs)) ≡ lexeme bs
   unfolding lexeme
   lexeme_space e = simp e
 
@@ -76,7 +86,7 @@ module _ (bs : List ℕ) where
     unfolding lexeme space
     slash_block f = simp (e, f)
 
-    pub slash_mark : (at bs 1 ≡ slash → ⊥) → (at bs 1 ≡ code "*" → ⊥) → Token (kinds.kind_of "/") 1 ≡ lexeme bs
+    pub slash_mark : (at bs 1 ≡ slash → ⊥) → (at bs 1 ≡ code "*" → ⊥) → Ok (Token (kinds.kind_of "/") 1) ≡ lexeme bs
     unfolding lexeme space quote letter digit mark kinds.mark
     slash_mark f g = simp (e, ne_eqb (at bs 1) slash f, ne_eqb (at bs 1) (code "*") g)
 
@@ -99,7 +109,7 @@ module _ (bs : List ℕ) where
     unfolding lexeme space quote letter
     underscore_word f = simp (e, f)
 
-    pub underscore_alone : letter (at bs 1) ≡ false → NoLexeme ≡ lexeme bs
+    pub underscore_alone : letter (at bs 1) ≡ false → Err NoLexeme ≡ lexeme bs
     unfolding lexeme space quote letter digit mark kinds.mark
     underscore_alone f = simp (e, f)
 
@@ -135,5 +145,5 @@ module _ (bs : List ℕ) where
     unfolding kinds.mark letter digit
     start_mark h e = other_mark (no_other letter tt h e) (no_other digit tt h e)
 
-    pub no_lexeme : letter (at bs 0) ≡ false → digit (at bs 0) ≡ false → starts_mark (at bs 0) ≡ false → NoLexeme ≡ lexeme bs
+    pub no_lexeme : letter (at bs 0) ≡ false → digit (at bs 0) ≡ false → starts_mark (at bs 0) ≡ false → Err NoLexeme ≡ lexeme bs
     no_lexeme e f g = no_mark bs g ∙ other_mark e f

@@ -13,12 +13,14 @@ use Rattle.text.specs.Lexemes.{starts, mark, lexeme}
 use Rattle.text.specs.Literals.{quote, literal, wide_literal}
 use Rattle.text.specs.Numbers.{number}
 use Rattle.text.specs.Words.{word, escaped_word}
+use Rattle.std.specs.Prelude.{Result, Ok}
+use Rattle.text.specs.declared.Fault.{Fault}
 use Rattle.text.specs.declared.Lexeme.{Lexeme}
 use Rattle.text.specs.declared.Lexeme.TheVariants.{Blank}
 use Rattle.text.proofs.Choices.{both, choose}
 
-module _ (bs : List ℕ) (Says : Lexeme → Type 0)
-    (of_spaces : space (at bs 0) ≡ true → Says (Blank (run space bs)))
+module _ (bs : List ℕ) (Says : Result Lexeme Fault → Type 0)
+    (of_spaces : space (at bs 0) ≡ true → Says (Ok (Blank (run space bs))))
     (of_line_comment : starts (code "/") (code "/") bs ≡ true → Says (line_comment bs))
     (of_block_comment : starts (code "/") (code "*") bs ≡ true → Says (block_comment bs))
     (of_literal : quote (at bs 0) ≡ true → Says (literal bs))

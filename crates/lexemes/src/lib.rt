@@ -3,119 +3,89 @@
 #![tactic(auto)]
 
 ghost use Rattle.std.specs.Prelude.{true, ◌≡◌, ◌<◌, length};
+ghost use Rattle.std.specs.Option.{unwrap_or};
 ghost use Rattle.lexemes.specs.Fronts as fronts;
-ghost use Rattle.text.specs.Bytes.{at, letter};
+ghost use Rattle.text.specs.Bytes.{at, end, letter};
 ghost use Rattle.text.specs.Lexemes as lexemes;
 ghost use Rattle.text.specs.Literals.{quote};
-ghost use Rattle.words.specs.Table.{table};
 
 use blanks::{block_comment, line_comment};
 use kinds::kind;
 use literals::{literal, wide_literal};
 use marks::{mark, starts_mark};
 use numbers::number;
-use text::{Class, Lexeme};
-use words::{TABLE_SIZE, escaped_word, word};
-
-// Bytes as `byte_at` gives them.
-const SLASH: u32 = b'/' as u32;
-
-const STAR: u32 = b'*' as u32;
+use text::{Class, Digit, Fault, Letter, Lexeme, Space};
+use words::{escaped_word, word};
 
 // A byte that opens a literal; the end of the text opens none.
-fn is_quote(byte: u32) -> bool
-    ensures { result ≡ quote byte }
+fn is_quote(byte: Option<u8>) -> bool
+    ensures { result ≡ quote (unwrap_or byte end) }
 {
-    match byte {
-        text::DOUBLE_QUOTE | text::QUOTE => true,
-        _ => false,
-    }
+    matches!(byte, Some(b'"' | b'\''))
 }
 
 // After a slash: a comment, or the mark.
-fn slash(bs: &[u8]) -> Lexeme
+fn slash(bs: &[u8]) -> Result<Lexeme, Fault>
     requires { at bs.now 0 ≡ fronts.slash }
     ensures { result ≡ lexemes.lexeme bs.now }
 {
-    let second = text::byte_at(bs, 1);
-    if second == SLASH {
-        return line_comment(bs);
-    }
-    if second == STAR {
-        return block_comment(bs);
-    }
-    Lexeme::Token(kind::SLASH, 1)
-}
-
-// A lexeme made anew: what a call has left in memory goes on in registers.
-fn again(found: Lexeme) -> Lexeme
-    ensures { result ≡ found }
-{
-    match found {
-        Lexeme::Blank(n) => Lexeme::Blank(n),
-        Lexeme::Token(kind, n) => Lexeme::Token(kind, n),
-        Lexeme::NoLexeme => Lexeme::NoLexeme,
-        Lexeme::Open => Lexeme::Open,
-        Lexeme::BadLiteral => Lexeme::BadLiteral,
-        Lexeme::OtherCase(kind) => Lexeme::OtherCase(kind),
+    match text::byte_at(bs, 1) {
+        Some(b'/') => line_comment(bs),
+        Some(b'*') => block_comment(bs),
+        _ => Ok(Lexeme::Token(kind::SLASH, 1)),
     }
 }
 
 // From a letter on: a wide literal where a quote comes directly after an L, or a word.
-fn wide_or_word(words: &[u8; TABLE_SIZE], bs: &[u8]) -> Lexeme
-    requires words_value { (words.now ≡ table) × (0 < length bs.now) }
-    requires bs_value { letter (at bs.now 0) ≡ true }
+fn wide_or_word(bs: &[u8]) -> Result<Lexeme, Fault>
+    requires { (0 < length bs.now) × (letter (at bs.now 0) ≡ true) }
     ensures { result ≡ lexemes.lexeme bs.now }
 {
     if bs[0] == b'L' {
         if is_quote(text::byte_at(bs, 1)) {
-            return again(wide_literal(&*bs));
+            return wide_literal(&*bs);
         }
     }
-    word(words, bs)
+    word(bs)
 }
 
 // After an underscore: a word makes an identifier; without one no lexeme starts here.
-fn underscore(bs: &[u8]) -> Lexeme
+fn underscore(bs: &[u8]) -> Result<Lexeme, Fault>
     requires { at bs.now 0 ≡ fronts.underscore }
     ensures { result ≡ lexemes.lexeme bs.now }
 {
-    if bs.len() < 2 {
-        return Lexeme::NoLexeme;
+    match text::byte_at(bs, 1) {
+        Some(second) if Letter::has(second) => escaped_word(bs),
+        _ => Err(Fault::NoLexeme),
     }
-    if text::is_letter(bs[1]) {
-        return escaped_word(bs);
-    }
-    Lexeme::NoLexeme
 }
 
-// The lexeme at the front. Letters are asked for first: most lexemes are words. `words` is the table of keywords, which the
-// caller makes once.
-pub fn lexeme(words: &[u8; TABLE_SIZE], bs: &[u8]) -> Lexeme
-    requires { (words.now ≡ table) × (0 < length bs.now) }
+// The lexeme at the front. Letters are asked for first: most lexemes are words.
+pub fn lexeme(bs: &[u8]) -> Result<Lexeme, Fault>
+    requires { 0 < length bs.now }
     ensures { result ≡ lexemes.lexeme bs.now }
 {
     let first = bs[0];
-    if text::is_letter(first) {
-        return wide_or_word(words, bs);
+    if Letter::has(first) {
+        return wide_or_word(bs);
     }
-    if text::is_space(first) {
-        return Lexeme::Blank(text::run_of(Class::Space, bs));
+    if Space::has(first) {
+        return Ok(Lexeme::Blank(text::run_of::<Space>(bs)));
     }
     match first {
         b'/' => slash(bs),
-        b'"' | b'\'' => again(literal(&*bs)),
+        b'"' | b'\'' => literal(&*bs),
         b'_' => underscore(bs),
-        b'.' => again(number(&*bs)),
+        b'.' => number(&*bs),
         _ => {
             // Asked before digits: of the orders tried, this one takes the fewest instructions.
             if starts_mark(first) {
                 return mark(bs);
             }
-            if text::is_digit(first) {
-                return again(number(&*bs));
+            if Digit::has(first) {
+                return number(&*bs);
             }
-            Lexeme::NoLexeme
+            Err(Fault::NoLexeme)
         }
     }
 }

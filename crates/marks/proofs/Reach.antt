@@ -8,10 +8,12 @@ use native.Mathlib.Omega.{arith}
 use borrow.Author.Tests.{ltb-true}
 use lib.Dec.{ltb}
 use lib.ListN.{length}
+use Rattle.std.specs.Prelude.{Ok, Err}
 use Rattle.kinds.specs.Kinds as kinds
 use Rattle.text.specs.Bytes.{end, at}
 use Rattle.text.specs.Lexemes.{mark}
-use Rattle.text.specs.declared.Lexeme.TheVariants.{Token, NoLexeme}
+use Rattle.text.specs.declared.Lexeme.TheVariants.{Token}
+use Rattle.text.specs.declared.Fault.TheVariants.{NoLexeme}
 use Rattle.text.proofs.Sizes.{Sized}
 use Rattle.marks.proofs.Spellings.{no_second}
 use Rattle.marks.proofs.Starts.{start_inside}
@@ -22,7 +24,7 @@ two_inside (b ∷ []) h = absurd (omega (arith, no_second b))
 two_inside (b ∷ c ∷ bs) h = omega arith
 
 choice_sized : (a b : Bool) (two one most : ℕ) → (a ≡ true → 2 ≤ most) → (b ≡ true → 1 ≤ most) →
-    Sized most (cond a (Token two 2) (cond b (Token one 1) NoLexeme))
+    Sized most (cond a (Ok (Token two 2)) (cond b (Ok (Token one 1)) (Err NoLexeme)))
 choice_sized true b two one most h k = let l = h refl in omega arith
 choice_sized false true two one most h k = let l = k refl in omega arith
 choice_sized false false two one most h k = tt

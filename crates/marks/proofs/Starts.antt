@@ -9,10 +9,11 @@ use native.Mathlib.Omega.{arith}
 use borrow.Author.Tests.{ne_eqb}
 use lib.Dec.{T, eqb}
 use lib.ListN.{length}
+use Rattle.std.specs.Prelude.{Err}
 use Rattle.kinds.specs.Kinds as kinds
 use Rattle.text.specs.Bytes.{end, at}
 use Rattle.text.specs.Lexemes.{mark}
-use Rattle.text.specs.declared.Lexeme.TheVariants.{NoLexeme}
+use Rattle.text.specs.declared.Fault.TheVariants.{NoLexeme}
 use Rattle.text.proofs.Ranges.{every, every_at}
 use Rattle.marks.specs.Starts.{starts_mark}
 use Rattle.marks.proofs.Spellings.{and_false}
@@ -43,6 +44,6 @@ unfolding kinds.mark
 no_two class x y colon less greater e =
     simp (and_false, outside class (code ":") x colon e, outside class (code "<") x less e, outside class (code ">") x greater e)
 
-pub no_mark : (bs : List ℕ) → starts_mark (at bs 0) ≡ false → NoLexeme ≡ mark bs
+pub no_mark : (bs : List ℕ) → starts_mark (at bs 0) ≡ false → Err NoLexeme ≡ mark bs
 unfolding mark kinds.mark
 no_mark bs e = sym (rw (no_two starts_mark (at bs 0) (at bs 1) refl refl refl e, e))

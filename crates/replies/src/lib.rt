@@ -35,6 +35,9 @@ impl Reply {
     // The numbers of a reply.
     pub const WIDTH: usize = 4;
 
+    // The number of every acceptance, and of no refusal.
+    pub const ACCEPTED: u32 = Row::Accepted as u32;
+
     fn of(row: Row, place: u32, tokens: u32, records: u32) -> Reply
         ensures { result ≡ rows.reply (number row) place tokens records }
     {
@@ -50,7 +53,7 @@ impl Reply {
     pub fn is_accepted(&self) -> bool
         ensures { result ≡ (self.now.number == rows.accepted_number) }
     {
-        self.number == Row::Accepted as u32
+        self.number == Reply::ACCEPTED
     }
 
     pub fn accepted(text: u32, tokens: u32, records: u32) -> Reply

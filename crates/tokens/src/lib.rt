@@ -81,10 +81,12 @@ pub fn read_tokens(text: &[u8], tokens: &mut [u32]) -> Reply
         return Reply::outside_limits();
     }
     match scan(text, tokens) {
+        Ok(count) if count <= tokens.len() / TOKEN_WIDTH => Reply::accepted(
+            text.len() as u32,
+            count as u32,
+            0,
+        ),
         Ok(count) => {
-            if count <= tokens.len() / TOKEN_WIDTH {
-                return Reply::accepted(text.len() as u32, count as u32, 0);
-            }
             clear(tokens);
             Reply::more_tokens(text.len() as u32, count as u32)
         }

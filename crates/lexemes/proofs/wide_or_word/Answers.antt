@@ -17,14 +17,14 @@ front bs h = sym (at_inside bs 0 h)
 
 pub returns-then-is_quote : goal.returns-then-is_quote
 returns-then-is_quote c =
-    c.again.ensures ∙ c.wide_literal.ensures
-    ∙ wide_quote _ (front c.args.bs.now c.requires.words_value.1 ∙ c.if-bs-eq76.true)
+    c.wide_literal.ensures
+    ∙ wide_quote _ (front c.args.bs.now c.requires.0 ∙ c.if-bs-eq76.true)
     (ap quote (sym c.byte_at.ensures) ∙ sym c.is_quote.ensures ∙ c.if-is_quote.true)
 
 pub returns : goal.returns
 returns c =
-    let e = c.requires.bs_value in
-    let f = front c.args.bs.now c.requires.words_value.1 in
+    let e = c.requires.1 in
+    let f = front c.args.bs.now c.requires.0 in
     c.word.ensures
     ∙ elim c.if-bs-eq76.branch [
       | then-bs-eq76+else-is_quote w ↦ wide_word _ (f ∙ w.if-bs-eq76.true) (ap quote (sym w.byte_at.ensures) ∙ sym w.is_quote.ensures ∙ w.if-is_quote.false)
@@ -32,4 +32,4 @@ returns c =
     ]
 
 pub word-requires : goal.word-requires
-word-requires c = (c.requires.words_value.0, c.requires.bs_value)
+word-requires c = c.requires.1

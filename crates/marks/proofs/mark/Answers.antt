@@ -1,57 +1,50 @@
 -- `marks::mark` meets its contract: the mark of two bytes where there is one, else the mark of one.
 -- The two kinds are what the called functions ensure; outside the range no byte doubles; that one starts a mark is required. Assumes nothing.
 use mathlib.Core.Path.{◌≡◌, refl, ap, sym, ◌∙◌}
-use mathlib.Core.Bool.{true, cond}
 use mathlib.Core.List.{List, [], ◌∷◌}
 use Prim.Native.Char.{code}
 use Prim.Native.Nat.{ℕ}
-use native.Mathlib.Omega.{arith}
-use borrow.Author.Tests.{lt-ltb}
-use lib.Dec.{ltb}
+use Rattle.std.specs.Prelude.{Some, Ok}
 use Rattle.kinds.specs.Kinds as kinds
 use Rattle.text.specs.Bytes.{at, from}
 use Rattle.text.specs.Lexemes.{mark}
-use Rattle.text.specs.declared.Lexeme.{Lexeme}
-use Rattle.text.specs.declared.Lexeme.TheVariants.{Token, NoLexeme}
+use Rattle.text.specs.declared.Lexeme.TheVariants.{Token}
 use Rattle.text.proofs.Runs.{at_inside}
+use Rattle.marks.specs.Starts.{kind_of, starts_mark}
+use Rattle.marks.proofs.Spellings.{marked, unmarked}
 use Rattle.marks.proofs.Starts.{start_inside, no_two}
 use Rattle.marks.proofs.mark.Goals as goal
-use Rattle.marks.proofs.mark.Goals.{then-first+else-two-gt0, else-first}
+use Rattle.marks.proofs.mark.Goals.{then-first+in_default, else-first}
 
--- the definition's choice between the kinds of two bytes and of one
-choice : ℕ → ℕ → Lexeme
-choice two one = cond (ltb 0 two) (Token two 2) (cond (ltb 0 one) (Token one 1) NoLexeme)
+pub bounds-bs-0 : goal.bounds-bs-0
+bounds-bs-0 c = start_inside c.args.bs.now c.requires
 
-chosen : (bs : List ℕ) {two one : ℕ} → two ≡ kinds.mark (at bs 0 ∷ at bs 1 ∷ []) → one ≡ kinds.mark (at bs 0 ∷ []) →
-    choice two one ≡ mark bs
-unfolding mark choice
-chosen bs e f = rw (e, f)
+double : (bs : List ℕ) {kind : ℕ} → Some kind ≡ kind_of (at bs 0 ∷ at bs 1 ∷ []) → Ok (Token kind 2) ≡ mark bs
+unfolding mark
+double bs e = let m = marked (at bs 0 ∷ at bs 1 ∷ []) e in rw (m.some, m.is) refl
 
--- a byte that is a mark alone, and starts none of two
-single : (bs : List ℕ) {one : ℕ} → 0 ≡ kinds.mark (at bs 0 ∷ at bs 1 ∷ []) → one ≡ kinds.mark (at bs 0 ∷ []) → ltb 0 one ≡ true →
-    Token one 1 ≡ mark bs
-unfolding choice
-single bs e f g = sym (rw g) ∙ chosen bs e f
+single : (bs : List ℕ) {kind : ℕ} → kinds.mark (at bs 0 ∷ at bs 1 ∷ []) ≡ 0 → Some kind ≡ kind_of (at bs 0 ∷ []) → Ok (Token kind 1) ≡ mark bs
+unfolding mark
+single bs none e = let m = marked (at bs 0 ∷ []) e in rw (none, m.some, m.is) refl
 
-pub returns-then-two-gt0 : goal.returns-then-two-gt0
-unfolding choice
-returns-then-two-gt0 c =
-    sym (rw (lt-ltb _ _ c.if-two-gt0.true))
-    ∙ chosen c.args.bs.now c.two_bytes-two.ensures refl
+pub returns-in-Some : goal.returns-in-Some
+returns-in-Some c = double c.args.bs.now (sym c.in-Some.is ∙ c.two_bytes.ensures)
 
--- else there is no mark of two bytes: there is none at the front, or its first byte does not double
+-- a byte that starts a mark has a kind
+pub unwrap-requires : goal.unwrap-requires
+unwrap-requires c =
+    let front = at_inside c.args.bs.now 0 (start_inside c.args.bs.now c.requires) in
+    rw (c.one_byte.ensures, ap starts_mark front ∙ c.requires) refl
+
 pub returns : goal.returns
 returns c =
     let bs = c.args.bs.now in
     let front = at_inside bs 0 (start_inside bs c.requires) in
     let range = from (code ":") (code ">") in
-    let none : 0 ≡ kinds.mark (at bs 0 ∷ at bs 1 ∷ []) =
+    let none : kinds.mark (at bs 0 ∷ at bs 1 ∷ []) ≡ 0 =
     elim c.if-first.branch [
-      | then-first+else-two-gt0 w ↦ omega (arith, w.two_bytes-two.ensures, w.if-two-gt0.false)
-      | else-first w ↦ sym (no_two range (at bs 0) (at bs 1) refl refl refl (ap range (sym front) ∙ w.if-first.false))
+      | then-first+in_default w ↦ unmarked (at bs 0 ∷ at bs 1 ∷ []) (sym w.two_bytes.ensures) w.in_default.not-Some
+      | else-first w ↦
+          no_two range (at bs 0) (at bs 1) refl refl refl (ap range (sym front) ∙ w.if-first.false)
     ] in
-    let one = c.one_byte.ensures ∙ ap (λ (b : ℕ). kinds.mark (b ∷ [])) front in
-    single bs none one (ap (ltb 0) one ∙ c.requires)
-
-pub bounds-bs-0 : goal.bounds-bs-0
-bounds-bs-0 c = start_inside c.args.bs.now c.requires
+    single bs none (sym c.unwrap.ensures ∙ c.one_byte.ensures ∙ ap (λ (b : ℕ). kind_of (b ∷ [])) front)

@@ -1,13 +1,13 @@
 -- `tokens::past_space` meets its contract: no white space, one byte of it, or a run that is counted.
 -- The run stands in the rest of the text, so its end lies in the text. Assumes nothing.
-use Prim.Native.Nat.{ℕ, zero, suc, ◌+◌, ◌-◌, ◌<◌}
+use Prim.Native.Nat.{ℕ, zero, suc, ◌<◌}
 use mathlib.Core.Bool.{true, false≢true}
 use mathlib.Core.List.{List, [], ◌∷◌}
 use mathlib.Core.Path.{◌≡◌, ap, sym, ◌∙◌}
 use native.Mathlib.Numerals.{add-one}
 use native.Mathlib.Omega.{arith}
-use lib.ListN.{length, take, drop, length-drop}
-use Rattle.text.specs.Bytes.{at, run, space}
+use lib.ListN.{length, drop, length-drop}
+use Rattle.text.specs.Bytes.{at, space}
 use Rattle.text.proofs.Rests.{rest}
 use Rattle.text.proofs.Runs.{run_within, run_none_at, run_one_at}
 use Rattle.tokens.proofs.past_space.Goals as goal
@@ -37,15 +37,9 @@ returns-then-not-is_space_at-2 c =
     omega arith
 
 -- what was counted is the run in the rest of the text
-passed : (text : List ℕ) (place : ℕ) {n : ℕ} → n ≡ run space (take (length text - place) (drop place text)) →
-    n ≡ run space (drop place text)
-passed text place e = e ∙ ap (run space) (rest text place)
-
 pub overflow_add-result-2 : goal.overflow_add-result-2
 overflow_add-result-2 c =
     let text = c.args.text.now in
     let place = c.args.place in
-    omega (arith, passed text place c.space_run.ensures, run_within space (drop place text), length-drop place text)
-
-pub returns : goal.returns
-returns c = ap (λ (n : ℕ). c.args.place + n) (passed c.args.text.now c.args.place c.space_run.ensures)
+    let counted = rw (rest text place) at c.space_run.ensures in
+    omega (arith, counted, run_within space (drop place text), length-drop place text)
