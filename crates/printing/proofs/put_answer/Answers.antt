@@ -6,18 +6,12 @@ use Rattle.printing.specs.Printed.{lent}
 use Rattle.printing.proofs.Answers.{prints_longer, prints_answer}
 use Rattle.printing.proofs.put_answer.Goals as goal
 
-pub returns-then-text-gt-LONGEST : goal.returns-then-text-gt-LONGEST
-returns-then-text-gt-LONGEST c = record {
-  written = λ sense means.
-      c.put_report.ensures.written ∙ prints_longer c.args.text.now _ sense c.if-text-gt-LONGEST.true c.outside_limits.ensures;
-  counts = search rules;
-}
+pub returns-then-text-gt-LONGEST-clause-written : goal.returns-then-text-gt-LONGEST-clause-written
+returns-then-text-gt-LONGEST-clause-written c = λ sense means.
+    c.put_report.ensures.written ∙ prints_longer c.args.text.now _ sense c.if-text-gt-LONGEST.true c.outside_limits.ensures
 
-pub returns : goal.returns
+pub returns-clause-written : goal.returns-clause-written
 unfolding lent
-returns c = record {
-  written = λ sense means.
-      c.put_report-2.ensures.written
-      ∙ prints_answer c.read-reply.ensures c.if-text-gt-LONGEST.false (search rules) refl refl sense means;
-  counts = search rules;
-}
+returns-clause-written c = λ sense means.
+    c.put_report-2.ensures.written
+    ∙ prints_answer c.read-reply.ensures c.if-text-gt-LONGEST.false (search rules) refl refl sense means

@@ -1,12 +1,12 @@
 -- `report::Page::put_line` meets its contract: at each turn what is written and the line of the numbers left are the whole line.
 -- The last number is always among those left. Assumes nothing.
-use Rattle.std.proofs.Common.{ℕ, ◌+◌, ◌<◌, ◌≤◌, List, [], ◌∷◌, ◌++◌, ◌∙◌, rules, length, drop, append-nil}
+use Rattle.std.proofs.Common.{ℕ, ◌+◌, ◌<◌, ◌≤◌, List, [], ◌∷◌, ◌++◌, ◌∙◌, length, drop, append-nil}
 use lib.ListN.{get_or}
 use Rattle.std.proofs.Math.ListN.{drop_of_length-le}
 use Rattle.report.specs.declared.Page.{Page}
 use Rattle.report.specs.Report.{blank, line_end, line, number}
 use Rattle.report.proofs.Lines.{line_step, line_last, line_empty}
-use Rattle.report.proofs.Written.{Left, left_all, left_more, left_fits, left_none, front_fits, writes_none}
+use Rattle.report.proofs.Written.{Left, left_more, left_fits, left_none, front_fits, writes_none}
 use Rattle.report.proofs.Page.put_line.Goals as goal
 
 -- the next number stands before the others that are left
@@ -26,9 +26,6 @@ put_number-requires c =
     let n = get_or front c.loop-n.n-index 0 in
     let left = next front c.loop-n.n-index c.in-Some.last.now c.loop-n-test.true c.loop-n.invariant.left in
     front_fits c.loop-n.self (number n ++ blank ∷ []) _ (left_fits left c.requires)
-
-pub loop-n-init : goal.loop-n-init
-loop-n-init c = record { same_reference = search rules; left = rw (c.in-Some.ensures.cases.0) (left_all c.args.self.now _) }
 
 pub loop-n-preserved : goal.loop-n-preserved
 loop-n-preserved c =
