@@ -102,7 +102,7 @@ impl<'a> Page<'a> {
         ensures same_reference { self.new.out.ghost_name ≡ self.old.out.ghost_name }
         ensures written { Writes self.old self.new (report reply tree.now) }
     {
-        if reply.number == Reply::ACCEPTED {
+        if reply.is_accepted() {
             self.put_acceptance(reply, tree);
         } else {
             self.put_refusal(reply);

@@ -44,7 +44,7 @@ fn run(rt: &impl Print, text: &[u8], table: &mut [u32]) -> io::Result<()> {
         " => {} {} {} {}",
         reply.number, reply.place, reply.tokens, reply.records
     )?;
-    let count = if reply.number == Reply::ACCEPTED {
+    let count = if reply.is_accepted() {
         reply.tokens
     } else {
         0
