@@ -127,31 +127,23 @@ impl Reading {
 }
 
 // The tokens of a lent table, whose places fit 32 bits.
-#[derive(Drop)]
+#[derive(Clone, Copy)]
 pub struct Tokens<'a> {
     table: &'a [u32],
-}
-
-impl<'a> Model for Tokens<'a> {
-    ghost Value = { List ℕ };
-
-    ghost view = { λ t. t.table.now };
-
-    ghost invariant = { λ t. Addressable t.table.now };
+    ghost addressable: { Addressable table.now },
 }
 
 impl<'a> Tokens<'a> {
     pub fn new(table: &'a [u32]) -> Tokens<'a>
         requires { Addressable table.now }
-        ensures { result ≡ table.now }
+        ensures { result.table.now ≡ table.now }
     {
         Tokens { table }
     }
 
     // The kind of token i; that of the end past the last.
-    pub fn kind_at(&self, i: u32) -> Kind
-        ensures kind { result ≡ kind_at self.now i }
-        ensures addressable { Addressable self.now }
+    pub fn kind_at(self, i: u32) -> Kind
+        ensures { result ≡ kind_at self.entry.table.now i }
     {
         let place = tables::TOKEN_WIDTH * (i as usize);
         if place < self.table.len() {
@@ -162,8 +154,8 @@ impl<'a> Tokens<'a> {
     }
 
     // The kind of the next token; that of the end also where reading has stopped.
-    pub fn next_kind(&self, at: Reading) -> Kind
-        ensures { result ≡ ahead self.now at }
+    pub fn next_kind(self, at: Reading) -> Kind
+        ensures { result ≡ ahead self.entry.table.now at }
     {
         if STOP <= at.state {
             return Kind::END;
@@ -172,9 +164,9 @@ impl<'a> Tokens<'a> {
     }
 
     // Reads a token of the kind.
-    pub fn take(&self, at: Reading, kind: Kind) -> Reading
+    pub fn take(self, at: Reading, kind: Kind) -> Reading
         requires { IsKind kind }
-        ensures { Takes self.now (token kind) at result }
+        ensures { Takes self.entry.table.now (token kind) at result }
     {
         if self.kind_at(low(at.state)) == kind {
             return Reading {
@@ -188,9 +180,9 @@ impl<'a> Tokens<'a> {
     }
 
     // Reads an opening mark, where a level of depth is left.
-    pub fn open(&self, at: Reading, mark: Kind, depth: u32) -> Reading
+    pub fn open(self, at: Reading, mark: Kind, depth: u32) -> Reading
         requires { IsKind mark }
-        ensures { Opens self.now depth mark at result }
+        ensures { Opens self.entry.table.now depth mark at result }
     {
         if self.kind_at(low(at.state)) == mark {
             if 0 < depth {
@@ -237,13 +229,13 @@ pub trait Part {
     ghost rule: { ℕ };
 
     // Reads one.
-    fn read(tokens: &Tokens, tree: &mut [u32], at: Reading, depth: u32) -> Reading
-        ensures { Reads one tokens.now depth (call rule) (at, tree.old) (result, tree.new) };
+    fn read(tokens: Tokens, tree: &mut [u32], at: Reading, depth: u32) -> Reading
+        ensures { Reads one tokens.entry.table.now depth (call rule) (at, tree.old) (result, tree.new) };
 }
 
 // More of a list, each behind a comma.
-pub fn further<P: Part>(tokens: &Tokens, tree: &mut [u32], at: Reading, depth: u32) -> Reading
-    ensures { Reads one tokens.now depth (further P.rule) (at, tree.old) (result, tree.new) }
+pub fn further<P: Part>(tokens: Tokens, tree: &mut [u32], at: Reading, depth: u32) -> Reading
+    ensures { Reads one tokens.entry.table.now depth (further P.rule) (at, tree.old) (result, tree.new) }
 {
     let mut last = at;
     while tokens.next_kind(last) == Kind::COMMA {
@@ -254,8 +246,8 @@ pub fn further<P: Part>(tokens: &Tokens, tree: &mut [u32], at: Reading, depth: u
 }
 
 // A list: one at least.
-pub fn list<P: Part>(tokens: &Tokens, tree: &mut [u32], at: Reading, depth: u32) -> Reading
-    ensures { Reads one tokens.now depth (list_of P.rule) (at, tree.old) (result, tree.new) }
+pub fn list<P: Part>(tokens: Tokens, tree: &mut [u32], at: Reading, depth: u32) -> Reading
+    ensures { Reads one tokens.entry.table.now depth (list_of P.rule) (at, tree.old) (result, tree.new) }
 {
     let first = P::read(tokens, tree, at, depth);
     further::<P>(tokens, tree, first, depth)

@@ -41,8 +41,8 @@ fn tighter(level: Rule) -> Rule
 
 // An expression in parentheses, as (38) primary_expr.
 #[cycle(expressions)]
-fn parenthesized(tokens: &Tokens, tree: &mut [u32], at: Reading, depth: u32) -> Reading
-    ensures { Reads one tokens.now depth ("(" ⟨ < "const_exp" > ⟩ ")") (at, tree.old) (result, tree.new) }
+fn parenthesized(tokens: Tokens, tree: &mut [u32], at: Reading, depth: u32) -> Reading
+    ensures { Reads one tokens.entry.table.now depth ("(" ⟨ < "const_exp" > ⟩ ")") (at, tree.old) (result, tree.new) }
 {
     let inside = tokens.open(at, Kind::OPEN_PARENTHESIS, depth);
     if inside.has_stopped() {
@@ -54,8 +54,8 @@ fn parenthesized(tokens: &Tokens, tree: &mut [u32], at: Reading, depth: u32) -> 
 
 // (38) primary_expr
 #[cycle(expressions)]
-fn primary(tokens: &Tokens, tree: &mut [u32], at: Reading, depth: u32) -> Reading
-    ensures { Reads one tokens.now depth (< "primary_expr" >) (at, tree.old) (result, tree.new) }
+fn primary(tokens: Tokens, tree: &mut [u32], at: Reading, depth: u32) -> Reading
+    ensures { Reads one tokens.entry.table.now depth (< "primary_expr" >) (at, tree.old) (result, tree.new) }
 {
     let next = tokens.next_kind(at);
     match next {
@@ -69,8 +69,8 @@ fn primary(tokens: &Tokens, tree: &mut [u32], at: Reading, depth: u32) -> Readin
 }
 
 // (37) unary_operator, where an operand is signed.
-fn sign(tokens: &Tokens, tree: &mut [u32], at: Reading, signed: bool) -> Reading
-    ensures { Signs tokens.now signed (at, tree.old) (result, tree.new) }
+fn sign(tokens: Tokens, tree: &mut [u32], at: Reading, signed: bool) -> Reading
+    ensures { Signs tokens.entry.table.now signed (at, tree.old) (result, tree.new) }
 {
     if signed {
         return one_of_three(
@@ -88,8 +88,8 @@ fn sign(tokens: &Tokens, tree: &mut [u32], at: Reading, signed: bool) -> Reading
 
 // (36) unary_expr
 #[cycle(expressions)]
-fn unary(tokens: &Tokens, tree: &mut [u32], at: Reading, depth: u32) -> Reading
-    ensures { Reads one tokens.now depth (< "unary_expr" >) (at, tree.old) (result, tree.new) }
+fn unary(tokens: Tokens, tree: &mut [u32], at: Reading, depth: u32) -> Reading
+    ensures { Reads one tokens.entry.table.now depth (< "unary_expr" >) (at, tree.old) (result, tree.new) }
 {
     let next = tokens.next_kind(at);
     let signed = is_one_of(next, Kind::MINUS, Kind::PLUS, Kind::TILDE);
@@ -104,16 +104,16 @@ fn unary(tokens: &Tokens, tree: &mut [u32], at: Reading, depth: u32) -> Reading
 // An operator of the level, and its right operand, which holds only tighter ones: all since `start` becomes one node.
 #[cycle(expressions)]
 fn operation(
-    tokens: &Tokens,
+    tokens: Tokens,
     tree: &mut [u32],
     start: Reading,
     at: Reading,
     depth: u32,
     level: Rule,
 ) -> Reading
-    requires { (level ≡ level_of (ahead tokens.now at)) × (rule "or_expr" ≤ level) }
-    ensures within { Within one tokens.now depth start (further_operand level) (at, tree.old) (result, tree.new) }
-    ensures looser { level_of (ahead tokens.now result) ≤ level }
+    requires { (level ≡ level_of (ahead tokens.table.now at)) × (rule "or_expr" ≤ level) }
+    ensures within { Within one tokens.entry.table.now depth start (further_operand level) (at, tree.old) (result, tree.new) }
+    ensures looser { level_of (ahead tokens.entry.table.now result) ≤ level }
 {
     let next = tokens.next_kind(at);
     let operator = tokens.take(at, next);
@@ -123,10 +123,10 @@ fn operation(
 
 // (30) to (36): operands, and the operators between them of this level and above.
 #[cycle(expressions)]
-fn binary(tokens: &Tokens, tree: &mut [u32], at: Reading, depth: u32, level: Rule) -> Reading
+fn binary(tokens: Tokens, tree: &mut [u32], at: Reading, depth: u32, level: Rule) -> Reading
     requires { (rule "or_expr" ≤ level) × (level ≤ rule "unary_expr") }
-    ensures reads { Reads one tokens.now depth (call level) (at, tree.old) (result, tree.new) }
-    ensures looser { level_of (ahead tokens.now result) < level }
+    ensures reads { Reads one tokens.entry.table.now depth (call level) (at, tree.old) (result, tree.new) }
+    ensures looser { level_of (ahead tokens.entry.table.now result) < level }
 {
     let mut value = unary(tokens, tree, at, depth);
     loop {
@@ -141,15 +141,15 @@ fn binary(tokens: &Tokens, tree: &mut [u32], at: Reading, depth: u32, level: Rul
 }
 
 // (29) const_exp
-pub fn const_exp(tokens: &Tokens, tree: &mut [u32], at: Reading, depth: u32) -> Reading
-    ensures { Reads one tokens.now depth (< "const_exp" >) (at, tree.old) (result, tree.new) }
+pub fn const_exp(tokens: Tokens, tree: &mut [u32], at: Reading, depth: u32) -> Reading
+    ensures { Reads one tokens.entry.table.now depth (< "const_exp" >) (at, tree.old) (result, tree.new) }
 {
     binary(tokens, tree, at, depth, Rule::OR_EXPR)
 }
 
 // (41) positive_int_const
-pub fn positive_int_const(tokens: &Tokens, tree: &mut [u32], at: Reading, depth: u32) -> Reading
-    ensures { Reads one tokens.now depth (< "positive_int_const" >) (at, tree.old) (result, tree.new) }
+pub fn positive_int_const(tokens: Tokens, tree: &mut [u32], at: Reading, depth: u32) -> Reading
+    ensures { Reads one tokens.entry.table.now depth (< "positive_int_const" >) (at, tree.old) (result, tree.new) }
 {
     const_exp(tokens, tree, at, depth)
 }

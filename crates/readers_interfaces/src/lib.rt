@@ -18,8 +18,8 @@ use readers_operations::{attr_dcl, op_dcl};
 use readers_structs::{const_dcl, except_dcl, type_dcl};
 
 // One or more of (11) interface_name or (20) value_name, with commas between them: a scoped name each, and no record more.
-pub fn scoped_names(tokens: &Tokens, tree: &mut [u32], at: Reading) -> Reading
-    ensures { ReadsNames tokens.now (at, tree.old) (result, tree.new) }
+pub fn scoped_names(tokens: Tokens, tree: &mut [u32], at: Reading) -> Reading
+    ensures { ReadsNames tokens.entry.table.now (at, tree.old) (result, tree.new) }
 {
     let mut names = scoped_name(tokens, tree, at);
     while tokens.next_kind(names) == Kind::COMMA {
@@ -30,8 +30,8 @@ pub fn scoped_names(tokens: &Tokens, tree: &mut [u32], at: Reading) -> Reading
 }
 
 // (10) interface_inheritance_spec
-fn interface_inheritance_spec(tokens: &Tokens, tree: &mut [u32], at: Reading) -> Reading
-    ensures { Flat one tokens.now < "interface_inheritance_spec" > (at, tree.old) (result, tree.new) }
+fn interface_inheritance_spec(tokens: Tokens, tree: &mut [u32], at: Reading) -> Reading
+    ensures { Flat one tokens.entry.table.now < "interface_inheritance_spec" > (at, tree.old) (result, tree.new) }
 {
     let colon = tokens.take(at, Kind::COLON);
     let names = scoped_names(tokens, tree, colon);
@@ -39,8 +39,8 @@ fn interface_inheritance_spec(tokens: &Tokens, tree: &mut [u32], at: Reading) ->
 }
 
 // The bases of an interface, if any.
-fn bases(tokens: &Tokens, tree: &mut [u32], at: Reading) -> Reading
-    ensures { Flat one tokens.now optional_bases (at, tree.old) (result, tree.new) }
+fn bases(tokens: Tokens, tree: &mut [u32], at: Reading) -> Reading
+    ensures { Flat one tokens.entry.table.now optional_bases (at, tree.old) (result, tree.new) }
 {
     let next = tokens.next_kind(at);
     match next {
@@ -100,8 +100,8 @@ pub fn starts_export(kind: Kind) -> bool
 }
 
 // What is exported, with its ";".
-fn exported(tokens: &Tokens, tree: &mut [u32], at: Reading, depth: u32) -> Reading
-    ensures { Reads one tokens.now depth exported (at, tree.old) (result, tree.new) }
+fn exported(tokens: Tokens, tree: &mut [u32], at: Reading, depth: u32) -> Reading
+    ensures { Reads one tokens.entry.table.now depth exported (at, tree.old) (result, tree.new) }
 {
     let next = tokens.next_kind(at);
     if starts_type_dcl(next) {
@@ -129,16 +129,16 @@ fn exported(tokens: &Tokens, tree: &mut [u32], at: Reading, depth: u32) -> Readi
 }
 
 // (9) export
-pub fn export(tokens: &Tokens, tree: &mut [u32], at: Reading, depth: u32) -> Reading
-    ensures { Reads one tokens.now depth < "export" > (at, tree.old) (result, tree.new) }
+pub fn export(tokens: Tokens, tree: &mut [u32], at: Reading, depth: u32) -> Reading
+    ensures { Reads one tokens.entry.table.now depth < "export" > (at, tree.old) (result, tree.new) }
 {
     let exported = exported(tokens, tree, at, depth);
     node(tree, at, exported, Rule::EXPORT)
 }
 
 // Exports, as many as there are.
-pub fn exports(tokens: &Tokens, tree: &mut [u32], at: Reading, depth: u32) -> Reading
-    ensures { Reads one tokens.now depth (< "export" > *) (at, tree.old) (result, tree.new) }
+pub fn exports(tokens: Tokens, tree: &mut [u32], at: Reading, depth: u32) -> Reading
+    ensures { Reads one tokens.entry.table.now depth (< "export" > *) (at, tree.old) (result, tree.new) }
 {
     let mut read = at;
     while starts_export(tokens.next_kind(read)) {
@@ -148,8 +148,8 @@ pub fn exports(tokens: &Tokens, tree: &mut [u32], at: Reading, depth: u32) -> Re
 }
 
 // (8) interface_body
-fn interface_body(tokens: &Tokens, tree: &mut [u32], at: Reading, depth: u32) -> Reading
-    ensures { Reads one tokens.now depth < "interface_body" > (at, tree.old) (result, tree.new) }
+fn interface_body(tokens: Tokens, tree: &mut [u32], at: Reading, depth: u32) -> Reading
+    ensures { Reads one tokens.entry.table.now depth < "interface_body" > (at, tree.old) (result, tree.new) }
 {
     let exports = exports(tokens, tree, at, depth);
     node(tree, at, exports, Rule::INTERFACE_BODY)
@@ -158,13 +158,13 @@ fn interface_body(tokens: &Tokens, tree: &mut [u32], at: Reading, depth: u32) ->
 // (4) interface, from "interface" on: (5) interface_dcl, whose (7) interface_header ends behind its bases, or
 // (6) forward_dcl.
 pub fn interface(
-    tokens: &Tokens,
+    tokens: Tokens,
     tree: &mut [u32],
     start: Reading,
     at: Reading,
     depth: u32,
 ) -> Reading
-    ensures { Within one tokens.now depth start interface_rest (at, tree.old) (result, tree.new) }
+    ensures { Within one tokens.entry.table.now depth start interface_rest (at, tree.old) (result, tree.new) }
 {
     let word = tokens.take(at, Kind::INTERFACE);
     let name = tokens.take(word, Kind::IDENTIFIER);

@@ -15,8 +15,8 @@ use kinds::Kind;
 use readers_core::{Reading, Tokens, node};
 
 // The first name, which "::" may precede.
-fn first_name(tokens: &Tokens, at: Reading) -> Reading
-    ensures { Takes tokens.now first_name at result }
+fn first_name(tokens: Tokens, at: Reading) -> Reading
+    ensures { Takes tokens.entry.table.now first_name at result }
 {
     let next = tokens.next_kind(at);
     match next {
@@ -29,8 +29,8 @@ fn first_name(tokens: &Tokens, at: Reading) -> Reading
 }
 
 // Each further step of a name is a node over what stands before it.
-fn further_names(tokens: &Tokens, tree: &mut [u32], start: Reading, at: Reading) -> Reading
-    ensures { FlatWithin one tokens.now start (further_name *) (at, tree.old) (result, tree.new) }
+fn further_names(tokens: Tokens, tree: &mut [u32], start: Reading, at: Reading) -> Reading
+    ensures { FlatWithin one tokens.entry.table.now start (further_name *) (at, tree.old) (result, tree.new) }
 {
     let mut names = at;
     while tokens.next_kind(names) == Kind::SCOPE {
@@ -42,8 +42,8 @@ fn further_names(tokens: &Tokens, tree: &mut [u32], start: Reading, at: Reading)
 }
 
 // (12) scoped_name
-pub fn scoped_name(tokens: &Tokens, tree: &mut [u32], at: Reading) -> Reading
-    ensures { Flat one tokens.now < "scoped_name" > (at, tree.old) (result, tree.new) }
+pub fn scoped_name(tokens: Tokens, tree: &mut [u32], at: Reading) -> Reading
+    ensures { Flat one tokens.entry.table.now < "scoped_name" > (at, tree.old) (result, tree.new) }
 {
     let name = first_name(tokens, at);
     let first = node(tree, at, name, Rule::SCOPED_NAME);
@@ -51,17 +51,17 @@ pub fn scoped_name(tokens: &Tokens, tree: &mut [u32], at: Reading) -> Reading
 }
 
 // A rule that is one token, as (63) char_type.
-pub fn one_token(tokens: &Tokens, tree: &mut [u32], at: Reading, kind: Kind, rule: Rule) -> Reading
+pub fn one_token(tokens: Tokens, tree: &mut [u32], at: Reading, kind: Kind, rule: Rule) -> Reading
     requires { IsKind kind }
-    ensures { FlatFollows tokens.now rule (λ n. seq (token kind) (wrap n)) (at, tree.old) (result, tree.new) }
+    ensures { FlatFollows tokens.entry.table.now rule (λ n. seq (token kind) (wrap n)) (at, tree.old) (result, tree.new) }
 {
     let token = tokens.take(at, kind);
     node(tree, at, token, rule)
 }
 
 // Behind "long": a second "long" or nothing.
-fn behind_long(tokens: &Tokens, tree: &mut [u32], start: Reading, at: Reading) -> Reading
-    ensures { FlatFrom one tokens.now start several behind_long (at, tree.old) (result, tree.new) }
+fn behind_long(tokens: Tokens, tree: &mut [u32], start: Reading, at: Reading) -> Reading
+    ensures { FlatFrom one tokens.entry.table.now start several behind_long (at, tree.old) (result, tree.new) }
 {
     let next = tokens.next_kind(at);
     match next {
@@ -74,8 +74,8 @@ fn behind_long(tokens: &Tokens, tree: &mut [u32], start: Reading, at: Reading) -
 }
 
 // (55) signed_int
-fn signed_int(tokens: &Tokens, tree: &mut [u32], at: Reading) -> Reading
-    ensures { Flat one tokens.now < "signed_int" > (at, tree.old) (result, tree.new) }
+fn signed_int(tokens: Tokens, tree: &mut [u32], at: Reading) -> Reading
+    ensures { Flat one tokens.entry.table.now < "signed_int" > (at, tree.old) (result, tree.new) }
 {
     let next = tokens.next_kind(at);
     match next {
@@ -91,8 +91,8 @@ fn signed_int(tokens: &Tokens, tree: &mut [u32], at: Reading) -> Reading
 }
 
 // Behind "unsigned": one of three types.
-fn behind_unsigned(tokens: &Tokens, tree: &mut [u32], start: Reading, at: Reading) -> Reading
-    ensures { FlatWithin one tokens.now start behind_unsigned (at, tree.old) (result, tree.new) }
+fn behind_unsigned(tokens: Tokens, tree: &mut [u32], start: Reading, at: Reading) -> Reading
+    ensures { FlatWithin one tokens.entry.table.now start behind_unsigned (at, tree.old) (result, tree.new) }
 {
     let next = tokens.next_kind(at);
     if next == Kind::SHORT {
@@ -109,16 +109,16 @@ fn behind_unsigned(tokens: &Tokens, tree: &mut [u32], start: Reading, at: Readin
 }
 
 // (59) unsigned_int
-fn unsigned_int(tokens: &Tokens, tree: &mut [u32], at: Reading) -> Reading
-    ensures { Flat one tokens.now < "unsigned_int" > (at, tree.old) (result, tree.new) }
+fn unsigned_int(tokens: Tokens, tree: &mut [u32], at: Reading) -> Reading
+    ensures { Flat one tokens.entry.table.now < "unsigned_int" > (at, tree.old) (result, tree.new) }
 {
     let word = tokens.take(at, Kind::UNSIGNED);
     behind_unsigned(tokens, tree, at, word)
 }
 
 // (54) integer_type
-pub fn integer_type(tokens: &Tokens, tree: &mut [u32], at: Reading) -> Reading
-    ensures { Flat one tokens.now < "integer_type" > (at, tree.old) (result, tree.new) }
+pub fn integer_type(tokens: Tokens, tree: &mut [u32], at: Reading) -> Reading
+    ensures { Flat one tokens.entry.table.now < "integer_type" > (at, tree.old) (result, tree.new) }
 {
     let next = tokens.next_kind(at);
     match next {
@@ -128,8 +128,8 @@ pub fn integer_type(tokens: &Tokens, tree: &mut [u32], at: Reading) -> Reading
 }
 
 // Behind "long", where a floating type may stand too.
-fn long_number(tokens: &Tokens, tree: &mut [u32], start: Reading, at: Reading) -> Reading
-    ensures { FlatFrom one tokens.now start several long_number (at, tree.old) (result, tree.new) }
+fn long_number(tokens: Tokens, tree: &mut [u32], start: Reading, at: Reading) -> Reading
+    ensures { FlatFrom one tokens.entry.table.now start several long_number (at, tree.old) (result, tree.new) }
 {
     let next = tokens.next_kind(at);
     match next {
@@ -142,8 +142,8 @@ fn long_number(tokens: &Tokens, tree: &mut [u32], start: Reading, at: Reading) -
 }
 
 // An integer or floating type, where a rule begins: `at` is its beginning.
-pub fn number_type(tokens: &Tokens, tree: &mut [u32], at: Reading) -> Reading
-    ensures { FlatFrom one tokens.now at nothing number_type (at, tree.old) (result, tree.new) }
+pub fn number_type(tokens: Tokens, tree: &mut [u32], at: Reading) -> Reading
+    ensures { FlatFrom one tokens.entry.table.now at nothing number_type (at, tree.old) (result, tree.new) }
 {
     let next = tokens.next_kind(at);
     match next {
@@ -161,8 +161,8 @@ pub fn number_type(tokens: &Tokens, tree: &mut [u32], at: Reading) -> Reading
 }
 
 // "short", where a rule begins.
-fn short_number(tokens: &Tokens, tree: &mut [u32], at: Reading) -> Reading
-    ensures { FlatWithin one tokens.now at short_number (at, tree.old) (result, tree.new) }
+fn short_number(tokens: Tokens, tree: &mut [u32], at: Reading) -> Reading
+    ensures { FlatWithin one tokens.entry.table.now at short_number (at, tree.old) (result, tree.new) }
 {
     let word = tokens.take(at, Kind::SHORT);
     node(tree, at, word, Rule::SIGNED_SHORT_INT)
@@ -185,8 +185,8 @@ pub fn word_rule(kind: Kind) -> Rule
 }
 
 // (46) base_type_spec
-pub fn base_type_spec(tokens: &Tokens, tree: &mut [u32], at: Reading) -> Reading
-    ensures { Flat one tokens.now < "base_type_spec" > (at, tree.old) (result, tree.new) }
+pub fn base_type_spec(tokens: Tokens, tree: &mut [u32], at: Reading) -> Reading
+    ensures { Flat one tokens.entry.table.now < "base_type_spec" > (at, tree.old) (result, tree.new) }
 {
     let next = tokens.next_kind(at);
     match next {
@@ -200,8 +200,8 @@ pub fn base_type_spec(tokens: &Tokens, tree: &mut [u32], at: Reading) -> Reading
 }
 
 // (40) boolean_literal
-fn boolean_literal(tokens: &Tokens, tree: &mut [u32], at: Reading) -> Reading
-    ensures { Flat one tokens.now < "boolean_literal" > (at, tree.old) (result, tree.new) }
+fn boolean_literal(tokens: Tokens, tree: &mut [u32], at: Reading) -> Reading
+    ensures { Flat one tokens.entry.table.now < "boolean_literal" > (at, tree.old) (result, tree.new) }
 {
     let next = tokens.next_kind(at);
     match next {
@@ -217,9 +217,9 @@ fn boolean_literal(tokens: &Tokens, tree: &mut [u32], at: Reading) -> Reading
 }
 
 // Strings of the kind, as many as stand ahead.
-fn neighbours(tokens: &Tokens, at: Reading, kind: Kind) -> Reading
+fn neighbours(tokens: Tokens, at: Reading, kind: Kind) -> Reading
     requires { IsKind kind }
-    ensures { Takes tokens.now (token kind *) at result }
+    ensures { Takes tokens.entry.table.now (token kind *) at result }
 {
     let mut strings = at;
     while tokens.next_kind(strings) == kind {
@@ -229,17 +229,17 @@ fn neighbours(tokens: &Tokens, at: Reading, kind: Kind) -> Reading
 }
 
 // A string literal: one or more strings of the kind, narrow or wide, side by side.
-pub fn string_literal(tokens: &Tokens, at: Reading, kind: Kind) -> Reading
+pub fn string_literal(tokens: Tokens, at: Reading, kind: Kind) -> Reading
     requires { IsKind kind }
-    ensures { Takes tokens.now (string_literal kind) at result }
+    ensures { Takes tokens.entry.table.now (string_literal kind) at result }
 {
     let first = tokens.take(at, kind);
     neighbours(tokens, first, kind)
 }
 
 // (39) literal
-pub fn literal(tokens: &Tokens, tree: &mut [u32], at: Reading) -> Reading
-    ensures { Flat one tokens.now < "literal" > (at, tree.old) (result, tree.new) }
+pub fn literal(tokens: Tokens, tree: &mut [u32], at: Reading) -> Reading
+    ensures { Flat one tokens.entry.table.now < "literal" > (at, tree.old) (result, tree.new) }
 {
     let next = tokens.next_kind(at);
     match next {
@@ -271,7 +271,7 @@ pub fn is_one_of(kind: Kind, first: Kind, second: Kind, third: Kind) -> bool
 
 // A rule that is one of three tokens, as (37) unary_operator: the next where it is one of them, else the first is asked for.
 pub fn one_of_three(
-    tokens: &Tokens,
+    tokens: Tokens,
     tree: &mut [u32],
     at: Reading,
     first: Kind,
@@ -280,7 +280,7 @@ pub fn one_of_three(
     rule: Rule,
 ) -> Reading
     requires { IsKind first × IsKind second × IsKind third }
-    ensures { FlatFollows tokens.now rule (one_of_three first second third) (at, tree.old) (result, tree.new) }
+    ensures { FlatFollows tokens.entry.table.now rule (one_of_three first second third) (at, tree.old) (result, tree.new) }
 {
     let next = tokens.next_kind(at);
     if is_one_of(next, first, second, third) {

@@ -16,8 +16,8 @@ use readers_names::{is_one_of, one_of_three, one_token, scoped_name, string_lite
 use readers_types::param_type_spec;
 
 // (89) op_type_spec
-fn op_type_spec(tokens: &Tokens, tree: &mut [u32], at: Reading, depth: u32) -> Reading
-    ensures { Reads one tokens.now depth < "op_type_spec" > (at, tree.old) (result, tree.new) }
+fn op_type_spec(tokens: Tokens, tree: &mut [u32], at: Reading, depth: u32) -> Reading
+    ensures { Reads one tokens.entry.table.now depth < "op_type_spec" > (at, tree.old) (result, tree.new) }
 {
     let next = tokens.next_kind(at);
     if next == Kind::VOID {
@@ -28,8 +28,8 @@ fn op_type_spec(tokens: &Tokens, tree: &mut [u32], at: Reading, depth: u32) -> R
 }
 
 // (91) param_dcl, with its (92) param_attribute
-fn param_dcl(tokens: &Tokens, tree: &mut [u32], at: Reading, depth: u32) -> Reading
-    ensures { Reads one tokens.now depth < "param_dcl" > (at, tree.old) (result, tree.new) }
+fn param_dcl(tokens: Tokens, tree: &mut [u32], at: Reading, depth: u32) -> Reading
+    ensures { Reads one tokens.entry.table.now depth < "param_dcl" > (at, tree.old) (result, tree.new) }
 {
     let direction = one_of_three(
         tokens,
@@ -52,8 +52,8 @@ fn param_dcl(tokens: &Tokens, tree: &mut [u32], at: Reading, depth: u32) -> Read
 }
 
 // (25) init_param_decl; (26) init_param_attribute and (51) simple_declarator are one token each.
-fn init_param_decl(tokens: &Tokens, tree: &mut [u32], at: Reading, depth: u32) -> Reading
-    ensures { Reads one tokens.now depth < "init_param_decl" > (at, tree.old) (result, tree.new) }
+fn init_param_decl(tokens: Tokens, tree: &mut [u32], at: Reading, depth: u32) -> Reading
+    ensures { Reads one tokens.entry.table.now depth < "init_param_decl" > (at, tree.old) (result, tree.new) }
 {
     let word = one_token(tokens, tree, at, Kind::IN, Rule::INIT_PARAM_ATTRIBUTE);
     let spec = param_type_spec(tokens, tree, word, depth);
@@ -73,7 +73,7 @@ struct Named;
 impl Part for Named {
     ghost rule = { rule "scoped_name" };
 
-    fn read(tokens: &Tokens, tree: &mut [u32], at: Reading, _depth: u32) -> Reading {
+    fn read(tokens: Tokens, tree: &mut [u32], at: Reading, _depth: u32) -> Reading {
         scoped_name(tokens, tree, at)
     }
 }
@@ -84,7 +84,7 @@ struct Declared;
 impl Part for Declared {
     ghost rule = { rule "simple_declarator" };
 
-    fn read(tokens: &Tokens, tree: &mut [u32], at: Reading, _depth: u32) -> Reading {
+    fn read(tokens: Tokens, tree: &mut [u32], at: Reading, _depth: u32) -> Reading {
         one_token(tokens, tree, at, Kind::IDENTIFIER, Rule::SIMPLE_DECLARATOR)
     }
 }
@@ -95,7 +95,7 @@ struct Parameter;
 impl Part for Parameter {
     ghost rule = { rule "param_dcl" };
 
-    fn read(tokens: &Tokens, tree: &mut [u32], at: Reading, depth: u32) -> Reading {
+    fn read(tokens: Tokens, tree: &mut [u32], at: Reading, depth: u32) -> Reading {
         param_dcl(tokens, tree, at, depth)
     }
 }
@@ -106,14 +106,14 @@ struct Initial;
 impl Part for Initial {
     ghost rule = { rule "init_param_decl" };
 
-    fn read(tokens: &Tokens, tree: &mut [u32], at: Reading, depth: u32) -> Reading {
+    fn read(tokens: Tokens, tree: &mut [u32], at: Reading, depth: u32) -> Reading {
         init_param_decl(tokens, tree, at, depth)
     }
 }
 
 // (24) init_param_decls: one alone leaves no record.
-pub fn init_param_decls(tokens: &Tokens, tree: &mut [u32], at: Reading, depth: u32) -> Reading
-    ensures { Reads one tokens.now depth < "init_param_decls" > (at, tree.old) (result, tree.new) }
+pub fn init_param_decls(tokens: Tokens, tree: &mut [u32], at: Reading, depth: u32) -> Reading
+    ensures { Reads one tokens.entry.table.now depth < "init_param_decls" > (at, tree.old) (result, tree.new) }
 {
     let first = init_param_decl(tokens, tree, at, depth);
     let next = tokens.next_kind(first);
@@ -125,8 +125,8 @@ pub fn init_param_decls(tokens: &Tokens, tree: &mut [u32], at: Reading, depth: u
 }
 
 // Parameters, if any.
-fn parameters(tokens: &Tokens, tree: &mut [u32], at: Reading, depth: u32) -> Reading
-    ensures { Reads one tokens.now depth optional_parameters (at, tree.old) (result, tree.new) }
+fn parameters(tokens: Tokens, tree: &mut [u32], at: Reading, depth: u32) -> Reading
+    ensures { Reads one tokens.entry.table.now depth optional_parameters (at, tree.old) (result, tree.new) }
 {
     let next = tokens.next_kind(at);
     if is_one_of(next, Kind::IN, Kind::OUT, Kind::INOUT) {
@@ -136,8 +136,8 @@ fn parameters(tokens: &Tokens, tree: &mut [u32], at: Reading, depth: u32) -> Rea
 }
 
 // (90) parameter_dcls
-fn parameter_dcls(tokens: &Tokens, tree: &mut [u32], at: Reading, depth: u32) -> Reading
-    ensures { Reads one tokens.now depth < "parameter_dcls" > (at, tree.old) (result, tree.new) }
+fn parameter_dcls(tokens: Tokens, tree: &mut [u32], at: Reading, depth: u32) -> Reading
+    ensures { Reads one tokens.entry.table.now depth < "parameter_dcls" > (at, tree.old) (result, tree.new) }
 {
     let inside = tokens.open(at, Kind::OPEN_PARENTHESIS, depth);
     let listed = parameters(tokens, tree, inside, inner(depth));
@@ -146,8 +146,8 @@ fn parameter_dcls(tokens: &Tokens, tree: &mut [u32], at: Reading, depth: u32) ->
 }
 
 // (93) raises_expr, or nothing.
-fn raises(tokens: &Tokens, tree: &mut [u32], at: Reading, depth: u32) -> Reading
-    ensures { Reads one tokens.now depth optional_raises (at, tree.old) (result, tree.new) }
+fn raises(tokens: Tokens, tree: &mut [u32], at: Reading, depth: u32) -> Reading
+    ensures { Reads one tokens.entry.table.now depth optional_raises (at, tree.old) (result, tree.new) }
 {
     let next = tokens.next_kind(at);
     if next == Kind::RAISES {
@@ -161,8 +161,8 @@ fn raises(tokens: &Tokens, tree: &mut [u32], at: Reading, depth: u32) -> Reading
 }
 
 // String literals, each behind a comma.
-fn further_strings(tokens: &Tokens, at: Reading) -> Reading
-    ensures { Takes tokens.now further_strings at result }
+fn further_strings(tokens: Tokens, at: Reading) -> Reading
+    ensures { Takes tokens.entry.table.now further_strings at result }
 {
     let mut listed = at;
     while tokens.next_kind(listed) == Kind::COMMA {
@@ -173,8 +173,8 @@ fn further_strings(tokens: &Tokens, at: Reading) -> Reading
 }
 
 // (94) context_expr, or nothing.
-fn context(tokens: &Tokens, tree: &mut [u32], at: Reading, depth: u32) -> Reading
-    ensures { Reads one tokens.now depth optional_context (at, tree.old) (result, tree.new) }
+fn context(tokens: Tokens, tree: &mut [u32], at: Reading, depth: u32) -> Reading
+    ensures { Reads one tokens.entry.table.now depth optional_context (at, tree.old) (result, tree.new) }
 {
     let next = tokens.next_kind(at);
     if next == Kind::CONTEXT {
@@ -189,8 +189,8 @@ fn context(tokens: &Tokens, tree: &mut [u32], at: Reading, depth: u32) -> Readin
 }
 
 // (88) op_attribute, or nothing.
-fn oneway(tokens: &Tokens, tree: &mut [u32], at: Reading) -> Reading
-    ensures { Flat one tokens.now optional_oneway (at, tree.old) (result, tree.new) }
+fn oneway(tokens: Tokens, tree: &mut [u32], at: Reading) -> Reading
+    ensures { Flat one tokens.entry.table.now optional_oneway (at, tree.old) (result, tree.new) }
 {
     let next = tokens.next_kind(at);
     if next == Kind::ONEWAY {
@@ -200,8 +200,8 @@ fn oneway(tokens: &Tokens, tree: &mut [u32], at: Reading) -> Reading
 }
 
 // (87) op_dcl
-pub fn op_dcl(tokens: &Tokens, tree: &mut [u32], at: Reading, depth: u32) -> Reading
-    ensures { Reads one tokens.now depth < "op_dcl" > (at, tree.old) (result, tree.new) }
+pub fn op_dcl(tokens: Tokens, tree: &mut [u32], at: Reading, depth: u32) -> Reading
+    ensures { Reads one tokens.entry.table.now depth < "op_dcl" > (at, tree.old) (result, tree.new) }
 {
     let attribute = oneway(tokens, tree, at);
     let spec = op_type_spec(tokens, tree, attribute, depth);
@@ -213,8 +213,8 @@ pub fn op_dcl(tokens: &Tokens, tree: &mut [u32], at: Reading, depth: u32) -> Rea
 }
 
 // "readonly", or nothing.
-fn readonly(tokens: &Tokens, at: Reading) -> Reading
-    ensures { Takes tokens.now optional_readonly at result }
+fn readonly(tokens: Tokens, at: Reading) -> Reading
+    ensures { Takes tokens.entry.table.now optional_readonly at result }
 {
     let next = tokens.next_kind(at);
     if next == Kind::READONLY {
@@ -224,8 +224,8 @@ fn readonly(tokens: &Tokens, at: Reading) -> Reading
 }
 
 // (85) attr_dcl
-pub fn attr_dcl(tokens: &Tokens, tree: &mut [u32], at: Reading, depth: u32) -> Reading
-    ensures { Reads one tokens.now depth < "attr_dcl" > (at, tree.old) (result, tree.new) }
+pub fn attr_dcl(tokens: Tokens, tree: &mut [u32], at: Reading, depth: u32) -> Reading
+    ensures { Reads one tokens.entry.table.now depth < "attr_dcl" > (at, tree.old) (result, tree.new) }
 {
     let word = readonly(tokens, at);
     let words = tokens.take(word, Kind::ATTRIBUTE);

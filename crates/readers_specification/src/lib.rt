@@ -19,13 +19,13 @@ use readers_values::{abstract_value, custom_value, value};
 
 // What begins with "abstract": an interface or a value.
 fn abstract_definition(
-    tokens: &Tokens,
+    tokens: Tokens,
     tree: &mut [u32],
     start: Reading,
     at: Reading,
     depth: u32,
 ) -> Reading
-    ensures { Within one tokens.now depth start abstract_definition (at, tree.old) (result, tree.new) }
+    ensures { Within one tokens.entry.table.now depth start abstract_definition (at, tree.old) (result, tree.new) }
 {
     let word = tokens.take(at, Kind::ABSTRACT);
     let next = tokens.next_kind(word);
@@ -37,14 +37,14 @@ fn abstract_definition(
 
 // What is defined, before its ";", where it is no module.
 fn other_definition(
-    tokens: &Tokens,
+    tokens: Tokens,
     tree: &mut [u32],
     start: Reading,
     at: Reading,
     depth: u32,
 ) -> Reading
-    requires { ahead tokens.now at ≡ kind_of "module" → ⊥ }
-    ensures { Within one tokens.now depth start defined (at, tree.old) (result, tree.new) }
+    requires { ahead tokens.table.now at ≡ kind_of "module" → ⊥ }
+    ensures { Within one tokens.entry.table.now depth start defined (at, tree.old) (result, tree.new) }
 {
     let next = tokens.next_kind(at);
     match next {
@@ -85,8 +85,8 @@ fn starts_definition(kind: Kind) -> bool
 
 // What is defined, before its ";".
 #[cycle(modules)]
-fn defined(tokens: &Tokens, tree: &mut [u32], start: Reading, at: Reading, depth: u32) -> Reading
-    ensures { Within one tokens.now depth start defined (at, tree.old) (result, tree.new) }
+fn defined(tokens: Tokens, tree: &mut [u32], start: Reading, at: Reading, depth: u32) -> Reading
+    ensures { Within one tokens.entry.table.now depth start defined (at, tree.old) (result, tree.new) }
 {
     let next = tokens.next_kind(at);
     match next {
@@ -97,8 +97,8 @@ fn defined(tokens: &Tokens, tree: &mut [u32], start: Reading, at: Reading, depth
 
 // (2) definition
 #[cycle(modules)]
-fn definition(tokens: &Tokens, tree: &mut [u32], at: Reading, depth: u32) -> Reading
-    ensures { Reads one tokens.now depth < "definition" > (at, tree.old) (result, tree.new) }
+fn definition(tokens: Tokens, tree: &mut [u32], at: Reading, depth: u32) -> Reading
+    ensures { Reads one tokens.entry.table.now depth < "definition" > (at, tree.old) (result, tree.new) }
 {
     let defined = defined(tokens, tree, at, at, depth);
     let mark = tokens.take(defined, Kind::SEMICOLON);
@@ -107,8 +107,8 @@ fn definition(tokens: &Tokens, tree: &mut [u32], at: Reading, depth: u32) -> Rea
 
 // One or more definitions.
 #[cycle(modules)]
-fn definitions(tokens: &Tokens, tree: &mut [u32], at: Reading, depth: u32) -> Reading
-    ensures { Reads one tokens.now depth definitions (at, tree.old) (result, tree.new) }
+fn definitions(tokens: Tokens, tree: &mut [u32], at: Reading, depth: u32) -> Reading
+    ensures { Reads one tokens.entry.table.now depth definitions (at, tree.old) (result, tree.new) }
 {
     let mut last = at;
     loop {
@@ -121,8 +121,8 @@ fn definitions(tokens: &Tokens, tree: &mut [u32], at: Reading, depth: u32) -> Re
 
 // (3) module: its definitions are read at one level of depth less.
 #[cycle(modules)]
-fn module_definition(tokens: &Tokens, tree: &mut [u32], at: Reading, depth: u32) -> Reading
-    ensures { Reads one tokens.now depth < "module" > (at, tree.old) (result, tree.new) }
+fn module_definition(tokens: Tokens, tree: &mut [u32], at: Reading, depth: u32) -> Reading
+    ensures { Reads one tokens.entry.table.now depth < "module" > (at, tree.old) (result, tree.new) }
 {
     let word = tokens.take(at, Kind::MODULE);
     let name = tokens.take(word, Kind::IDENTIFIER);
@@ -136,8 +136,8 @@ fn module_definition(tokens: &Tokens, tree: &mut [u32], at: Reading, depth: u32)
 }
 
 // (1) specification
-pub fn specification(tokens: &Tokens, tree: &mut [u32], at: Reading, depth: u32) -> Reading
-    ensures { Reads one tokens.now depth < "specification" > (at, tree.old) (result, tree.new) }
+pub fn specification(tokens: Tokens, tree: &mut [u32], at: Reading, depth: u32) -> Reading
+    ensures { Reads one tokens.entry.table.now depth < "specification" > (at, tree.old) (result, tree.new) }
 {
     let definitions = definitions(tokens, tree, at, depth);
     node(tree, at, definitions, Rule::SPECIFICATION)

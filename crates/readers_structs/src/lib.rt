@@ -62,8 +62,8 @@ fn starts_case(kind: Kind) -> bool
 
 // (44) type_spec
 #[cycle(members)]
-pub fn type_spec(tokens: &Tokens, tree: &mut [u32], at: Reading, depth: u32) -> Reading
-    ensures { Reads one tokens.now depth < "type_spec" > (at, tree.old) (result, tree.new) }
+pub fn type_spec(tokens: Tokens, tree: &mut [u32], at: Reading, depth: u32) -> Reading
+    ensures { Reads one tokens.entry.table.now depth < "type_spec" > (at, tree.old) (result, tree.new) }
 {
     let next = tokens.next_kind(at);
     match next {
@@ -74,8 +74,8 @@ pub fn type_spec(tokens: &Tokens, tree: &mut [u32], at: Reading, depth: u32) -> 
 
 // (48) constr_type_spec
 #[cycle(members)]
-fn constr_type_spec(tokens: &Tokens, tree: &mut [u32], at: Reading, depth: u32) -> Reading
-    ensures { Reads one tokens.now depth < "constr_type_spec" > (at, tree.old) (result, tree.new) }
+fn constr_type_spec(tokens: Tokens, tree: &mut [u32], at: Reading, depth: u32) -> Reading
+    ensures { Reads one tokens.entry.table.now depth < "constr_type_spec" > (at, tree.old) (result, tree.new) }
 {
     let next = tokens.next_kind(at);
     match next {
@@ -87,8 +87,8 @@ fn constr_type_spec(tokens: &Tokens, tree: &mut [u32], at: Reading, depth: u32) 
 
 // (69) struct_type
 #[cycle(members)]
-fn struct_type(tokens: &Tokens, tree: &mut [u32], at: Reading, depth: u32) -> Reading
-    ensures { Reads one tokens.now depth < "struct_type" > (at, tree.old) (result, tree.new) }
+fn struct_type(tokens: Tokens, tree: &mut [u32], at: Reading, depth: u32) -> Reading
+    ensures { Reads one tokens.entry.table.now depth < "struct_type" > (at, tree.old) (result, tree.new) }
 {
     let word = tokens.take(at, Kind::STRUCT);
     let name = tokens.take(word, Kind::IDENTIFIER);
@@ -98,8 +98,8 @@ fn struct_type(tokens: &Tokens, tree: &mut [u32], at: Reading, depth: u32) -> Re
 
 // The members of a struct between their braces.
 #[cycle(members)]
-fn struct_body(tokens: &Tokens, tree: &mut [u32], at: Reading, depth: u32) -> Reading
-    ensures { Reads one tokens.now depth struct_body (at, tree.old) (result, tree.new) }
+fn struct_body(tokens: Tokens, tree: &mut [u32], at: Reading, depth: u32) -> Reading
+    ensures { Reads one tokens.entry.table.now depth struct_body (at, tree.old) (result, tree.new) }
 {
     let inside = tokens.open(at, Kind::OPEN_BRACE, depth);
     if inside.has_stopped() {
@@ -111,8 +111,8 @@ fn struct_body(tokens: &Tokens, tree: &mut [u32], at: Reading, depth: u32) -> Re
 
 // (70) member_list: one member alone leaves no record.
 #[cycle(members)]
-fn member_list(tokens: &Tokens, tree: &mut [u32], at: Reading, depth: u32) -> Reading
-    ensures { Reads one tokens.now depth < "member_list" > (at, tree.old) (result, tree.new) }
+fn member_list(tokens: Tokens, tree: &mut [u32], at: Reading, depth: u32) -> Reading
+    ensures { Reads one tokens.entry.table.now depth < "member_list" > (at, tree.old) (result, tree.new) }
 {
     let first = member(tokens, tree, at, depth);
     if starts_type(tokens.next_kind(first)) {
@@ -124,8 +124,8 @@ fn member_list(tokens: &Tokens, tree: &mut [u32], at: Reading, depth: u32) -> Re
 
 // Members, as many as there are.
 #[cycle(members)]
-fn further_members(tokens: &Tokens, tree: &mut [u32], at: Reading, depth: u32) -> Reading
-    ensures { Reads one tokens.now depth (< "member" > *) (at, tree.old) (result, tree.new) }
+fn further_members(tokens: Tokens, tree: &mut [u32], at: Reading, depth: u32) -> Reading
+    ensures { Reads one tokens.entry.table.now depth (< "member" > *) (at, tree.old) (result, tree.new) }
 {
     let mut last = at;
     while starts_type(tokens.next_kind(last)) {
@@ -136,8 +136,8 @@ fn further_members(tokens: &Tokens, tree: &mut [u32], at: Reading, depth: u32) -
 
 // (71) member
 #[cycle(members)]
-fn member(tokens: &Tokens, tree: &mut [u32], at: Reading, depth: u32) -> Reading
-    ensures { Reads one tokens.now depth < "member" > (at, tree.old) (result, tree.new) }
+fn member(tokens: Tokens, tree: &mut [u32], at: Reading, depth: u32) -> Reading
+    ensures { Reads one tokens.entry.table.now depth < "member" > (at, tree.old) (result, tree.new) }
 {
     let spec = type_spec(tokens, tree, at, depth);
     let names = declarators(tokens, tree, spec, depth);
@@ -147,8 +147,8 @@ fn member(tokens: &Tokens, tree: &mut [u32], at: Reading, depth: u32) -> Reading
 
 // (72) union_type
 #[cycle(members)]
-fn union_type(tokens: &Tokens, tree: &mut [u32], at: Reading, depth: u32) -> Reading
-    ensures { Reads one tokens.now depth < "union_type" > (at, tree.old) (result, tree.new) }
+fn union_type(tokens: Tokens, tree: &mut [u32], at: Reading, depth: u32) -> Reading
+    ensures { Reads one tokens.entry.table.now depth < "union_type" > (at, tree.old) (result, tree.new) }
 {
     let word = tokens.take(at, Kind::UNION);
     let name = tokens.take(word, Kind::IDENTIFIER);
@@ -157,8 +157,8 @@ fn union_type(tokens: &Tokens, tree: &mut [u32], at: Reading, depth: u32) -> Rea
 
 // What stands behind the name of a union that began where `start` stands.
 #[cycle(members)]
-fn union_rest(tokens: &Tokens, tree: &mut [u32], start: Reading, at: Reading, depth: u32) -> Reading
-    ensures { Within one tokens.now depth start union_rest (at, tree.old) (result, tree.new) }
+fn union_rest(tokens: Tokens, tree: &mut [u32], start: Reading, at: Reading, depth: u32) -> Reading
+    ensures { Within one tokens.entry.table.now depth start union_rest (at, tree.old) (result, tree.new) }
 {
     let word = tokens.take(at, Kind::SWITCH);
     let head = switch_head(tokens, tree, word, depth);
@@ -167,8 +167,8 @@ fn union_rest(tokens: &Tokens, tree: &mut [u32], start: Reading, at: Reading, de
 }
 
 // The type of a switch between its parentheses.
-fn switch_head(tokens: &Tokens, tree: &mut [u32], at: Reading, depth: u32) -> Reading
-    ensures { Reads one tokens.now depth switch_head (at, tree.old) (result, tree.new) }
+fn switch_head(tokens: Tokens, tree: &mut [u32], at: Reading, depth: u32) -> Reading
+    ensures { Reads one tokens.entry.table.now depth switch_head (at, tree.old) (result, tree.new) }
 {
     let inside = tokens.open(at, Kind::OPEN_PARENTHESIS, depth);
     let spec = switch_type_spec(tokens, tree, inside, inner(depth));
@@ -177,8 +177,8 @@ fn switch_head(tokens: &Tokens, tree: &mut [u32], at: Reading, depth: u32) -> Re
 
 // The cases of a union between their braces.
 #[cycle(members)]
-fn switch_block(tokens: &Tokens, tree: &mut [u32], at: Reading, depth: u32) -> Reading
-    ensures { Reads one tokens.now depth switch_block (at, tree.old) (result, tree.new) }
+fn switch_block(tokens: Tokens, tree: &mut [u32], at: Reading, depth: u32) -> Reading
+    ensures { Reads one tokens.entry.table.now depth switch_block (at, tree.old) (result, tree.new) }
 {
     let inside = tokens.open(at, Kind::OPEN_BRACE, depth);
     if inside.has_stopped() {
@@ -190,8 +190,8 @@ fn switch_block(tokens: &Tokens, tree: &mut [u32], at: Reading, depth: u32) -> R
 
 // (74) switch_body: one case alone leaves no record.
 #[cycle(members)]
-fn switch_body(tokens: &Tokens, tree: &mut [u32], at: Reading, depth: u32) -> Reading
-    ensures { Reads one tokens.now depth < "switch_body" > (at, tree.old) (result, tree.new) }
+fn switch_body(tokens: Tokens, tree: &mut [u32], at: Reading, depth: u32) -> Reading
+    ensures { Reads one tokens.entry.table.now depth < "switch_body" > (at, tree.old) (result, tree.new) }
 {
     let first = case_clause(tokens, tree, at, depth);
     if starts_case(tokens.next_kind(first)) {
@@ -203,8 +203,8 @@ fn switch_body(tokens: &Tokens, tree: &mut [u32], at: Reading, depth: u32) -> Re
 
 // Further cases, as many as there are.
 #[cycle(members)]
-fn further_cases(tokens: &Tokens, tree: &mut [u32], at: Reading, depth: u32) -> Reading
-    ensures { Reads one tokens.now depth (< "case" > *) (at, tree.old) (result, tree.new) }
+fn further_cases(tokens: Tokens, tree: &mut [u32], at: Reading, depth: u32) -> Reading
+    ensures { Reads one tokens.entry.table.now depth (< "case" > *) (at, tree.old) (result, tree.new) }
 {
     let mut last = at;
     while starts_case(tokens.next_kind(last)) {
@@ -215,8 +215,8 @@ fn further_cases(tokens: &Tokens, tree: &mut [u32], at: Reading, depth: u32) -> 
 
 // (75) case
 #[cycle(members)]
-fn case_clause(tokens: &Tokens, tree: &mut [u32], at: Reading, depth: u32) -> Reading
-    ensures { Reads one tokens.now depth < "case" > (at, tree.old) (result, tree.new) }
+fn case_clause(tokens: Tokens, tree: &mut [u32], at: Reading, depth: u32) -> Reading
+    ensures { Reads one tokens.entry.table.now depth < "case" > (at, tree.old) (result, tree.new) }
 {
     let label = case_label(tokens, tree, at, depth);
     let labels = further_labels(tokens, tree, label, depth);
@@ -226,8 +226,8 @@ fn case_clause(tokens: &Tokens, tree: &mut [u32], at: Reading, depth: u32) -> Re
 }
 
 // Further labels of a case, as many as there are.
-fn further_labels(tokens: &Tokens, tree: &mut [u32], at: Reading, depth: u32) -> Reading
-    ensures { Reads one tokens.now depth (< "case_label" > *) (at, tree.old) (result, tree.new) }
+fn further_labels(tokens: Tokens, tree: &mut [u32], at: Reading, depth: u32) -> Reading
+    ensures { Reads one tokens.entry.table.now depth (< "case_label" > *) (at, tree.old) (result, tree.new) }
 {
     let mut last = at;
     while starts_case(tokens.next_kind(last)) {
@@ -238,8 +238,8 @@ fn further_labels(tokens: &Tokens, tree: &mut [u32], at: Reading, depth: u32) ->
 
 // (77) element_spec
 #[cycle(members)]
-fn element_spec(tokens: &Tokens, tree: &mut [u32], at: Reading, depth: u32) -> Reading
-    ensures { Reads one tokens.now depth < "element_spec" > (at, tree.old) (result, tree.new) }
+fn element_spec(tokens: Tokens, tree: &mut [u32], at: Reading, depth: u32) -> Reading
+    ensures { Reads one tokens.entry.table.now depth < "element_spec" > (at, tree.old) (result, tree.new) }
 {
     let spec = type_spec(tokens, tree, at, depth);
     let name = declarator(tokens, tree, spec, depth);
@@ -247,8 +247,8 @@ fn element_spec(tokens: &Tokens, tree: &mut [u32], at: Reading, depth: u32) -> R
 }
 
 // (43) type_declarator
-fn type_declarator(tokens: &Tokens, tree: &mut [u32], at: Reading, depth: u32) -> Reading
-    ensures { Reads one tokens.now depth < "type_declarator" > (at, tree.old) (result, tree.new) }
+fn type_declarator(tokens: Tokens, tree: &mut [u32], at: Reading, depth: u32) -> Reading
+    ensures { Reads one tokens.entry.table.now depth < "type_declarator" > (at, tree.old) (result, tree.new) }
 {
     let spec = type_spec(tokens, tree, at, depth);
     let names = declarators(tokens, tree, spec, depth);
@@ -256,8 +256,8 @@ fn type_declarator(tokens: &Tokens, tree: &mut [u32], at: Reading, depth: u32) -
 }
 
 // A struct declared, or only named, where a rule begins.
-fn struct_dcl(tokens: &Tokens, tree: &mut [u32], at: Reading, depth: u32) -> Reading
-    ensures { Within one tokens.now depth at struct_dcl (at, tree.old) (result, tree.new) }
+fn struct_dcl(tokens: Tokens, tree: &mut [u32], at: Reading, depth: u32) -> Reading
+    ensures { Within one tokens.entry.table.now depth at struct_dcl (at, tree.old) (result, tree.new) }
 {
     let word = tokens.take(at, Kind::STRUCT);
     let name = tokens.take(word, Kind::IDENTIFIER);
@@ -270,8 +270,8 @@ fn struct_dcl(tokens: &Tokens, tree: &mut [u32], at: Reading, depth: u32) -> Rea
 }
 
 // A union declared, or only named, where a rule begins.
-fn union_dcl(tokens: &Tokens, tree: &mut [u32], at: Reading, depth: u32) -> Reading
-    ensures { Within one tokens.now depth at union_dcl (at, tree.old) (result, tree.new) }
+fn union_dcl(tokens: Tokens, tree: &mut [u32], at: Reading, depth: u32) -> Reading
+    ensures { Within one tokens.entry.table.now depth at union_dcl (at, tree.old) (result, tree.new) }
 {
     let word = tokens.take(at, Kind::UNION);
     let name = tokens.take(word, Kind::IDENTIFIER);
@@ -283,8 +283,8 @@ fn union_dcl(tokens: &Tokens, tree: &mut [u32], at: Reading, depth: u32) -> Read
 }
 
 // (42) type_dcl
-pub fn type_dcl(tokens: &Tokens, tree: &mut [u32], at: Reading, depth: u32) -> Reading
-    ensures { Reads one tokens.now depth < "type_dcl" > (at, tree.old) (result, tree.new) }
+pub fn type_dcl(tokens: Tokens, tree: &mut [u32], at: Reading, depth: u32) -> Reading
+    ensures { Reads one tokens.entry.table.now depth < "type_dcl" > (at, tree.old) (result, tree.new) }
 {
     let next = tokens.next_kind(at);
     match next {
@@ -311,8 +311,8 @@ pub fn type_dcl(tokens: &Tokens, tree: &mut [u32], at: Reading, depth: u32) -> R
 }
 
 // The members of an exception between their braces.
-fn exception_body(tokens: &Tokens, tree: &mut [u32], at: Reading, depth: u32) -> Reading
-    ensures { Reads one tokens.now depth exception_body (at, tree.old) (result, tree.new) }
+fn exception_body(tokens: Tokens, tree: &mut [u32], at: Reading, depth: u32) -> Reading
+    ensures { Reads one tokens.entry.table.now depth exception_body (at, tree.old) (result, tree.new) }
 {
     let inside = tokens.open(at, Kind::OPEN_BRACE, depth);
     let members = further_members(tokens, tree, inside, inner(depth));
@@ -320,8 +320,8 @@ fn exception_body(tokens: &Tokens, tree: &mut [u32], at: Reading, depth: u32) ->
 }
 
 // (86) except_dcl
-pub fn except_dcl(tokens: &Tokens, tree: &mut [u32], at: Reading, depth: u32) -> Reading
-    ensures { Reads one tokens.now depth < "except_dcl" > (at, tree.old) (result, tree.new) }
+pub fn except_dcl(tokens: Tokens, tree: &mut [u32], at: Reading, depth: u32) -> Reading
+    ensures { Reads one tokens.entry.table.now depth < "except_dcl" > (at, tree.old) (result, tree.new) }
 {
     let word = tokens.take(at, Kind::EXCEPTION);
     let name = tokens.take(word, Kind::IDENTIFIER);
@@ -330,8 +330,8 @@ pub fn except_dcl(tokens: &Tokens, tree: &mut [u32], at: Reading, depth: u32) ->
 }
 
 // (27) const_dcl
-pub fn const_dcl(tokens: &Tokens, tree: &mut [u32], at: Reading, depth: u32) -> Reading
-    ensures { Reads one tokens.now depth < "const_dcl" > (at, tree.old) (result, tree.new) }
+pub fn const_dcl(tokens: Tokens, tree: &mut [u32], at: Reading, depth: u32) -> Reading
+    ensures { Reads one tokens.entry.table.now depth < "const_dcl" > (at, tree.old) (result, tree.new) }
 {
     let word = tokens.take(at, Kind::CONST);
     let spec = const_type(tokens, tree, word, depth);

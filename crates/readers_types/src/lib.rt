@@ -19,7 +19,7 @@ use readers_names::{base_type_spec, integer_type, number_type, one_token, scoped
 
 // A positive constant between an opening mark and its closing one.
 fn enclosed(
-    tokens: &Tokens,
+    tokens: Tokens,
     tree: &mut [u32],
     at: Reading,
     depth: u32,
@@ -27,7 +27,7 @@ fn enclosed(
     closing: Kind,
 ) -> Reading
     requires { IsKind opening × IsKind closing }
-    ensures { Reads one tokens.now depth (group opening < "positive_int_const" > closing) (at, tree.old) (result, tree.new) }
+    ensures { Reads one tokens.entry.table.now depth (group opening < "positive_int_const" > closing) (at, tree.old) (result, tree.new) }
 {
     let inside = tokens.open(at, opening, depth);
     let constant = positive_int_const(tokens, tree, inside, inner(depth));
@@ -46,14 +46,14 @@ fn string_rule(kind: Kind) -> Rule
 
 // (81) string_type and (82) wide_string_type: the word, and a bound or none.
 pub fn string_type(
-    tokens: &Tokens,
+    tokens: Tokens,
     tree: &mut [u32],
     at: Reading,
     depth: u32,
     kind: Kind,
 ) -> Reading
     requires { IsString kind }
-    ensures { Reads one tokens.now depth (call (string_rule kind)) (at, tree.old) (result, tree.new) }
+    ensures { Reads one tokens.entry.table.now depth (call (string_rule kind)) (at, tree.old) (result, tree.new) }
 {
     let rule = string_rule(kind);
     let word = tokens.take(at, kind);
@@ -73,8 +73,8 @@ pub fn string_type(
 }
 
 // The two bounds of a fixed-point type.
-fn fixed_bounds(tokens: &Tokens, tree: &mut [u32], at: Reading, depth: u32) -> Reading
-    ensures { Reads one tokens.now depth fixed_bounds (at, tree.old) (result, tree.new) }
+fn fixed_bounds(tokens: Tokens, tree: &mut [u32], at: Reading, depth: u32) -> Reading
+    ensures { Reads one tokens.entry.table.now depth fixed_bounds (at, tree.old) (result, tree.new) }
 {
     let below = inner(depth);
     let inside = tokens.open(at, Kind::OPEN_ANGLE, depth);
@@ -85,8 +85,8 @@ fn fixed_bounds(tokens: &Tokens, tree: &mut [u32], at: Reading, depth: u32) -> R
 }
 
 // (96) fixed_pt_type
-fn fixed_pt_type(tokens: &Tokens, tree: &mut [u32], at: Reading, depth: u32) -> Reading
-    ensures { Reads one tokens.now depth < "fixed_pt_type" > (at, tree.old) (result, tree.new) }
+fn fixed_pt_type(tokens: Tokens, tree: &mut [u32], at: Reading, depth: u32) -> Reading
+    ensures { Reads one tokens.entry.table.now depth < "fixed_pt_type" > (at, tree.old) (result, tree.new) }
 {
     let word = tokens.take(at, Kind::FIXED);
     let bounds = fixed_bounds(tokens, tree, word, depth);
@@ -94,8 +94,8 @@ fn fixed_pt_type(tokens: &Tokens, tree: &mut [u32], at: Reading, depth: u32) -> 
 }
 
 // (84) fixed_array_size
-fn fixed_array_size(tokens: &Tokens, tree: &mut [u32], at: Reading, depth: u32) -> Reading
-    ensures { Reads one tokens.now depth < "fixed_array_size" > (at, tree.old) (result, tree.new) }
+fn fixed_array_size(tokens: Tokens, tree: &mut [u32], at: Reading, depth: u32) -> Reading
+    ensures { Reads one tokens.entry.table.now depth < "fixed_array_size" > (at, tree.old) (result, tree.new) }
 {
     let size = enclosed(
         tokens,
@@ -109,8 +109,8 @@ fn fixed_array_size(tokens: &Tokens, tree: &mut [u32], at: Reading, depth: u32) 
 }
 
 // Further sizes of an array.
-fn further_sizes(tokens: &Tokens, tree: &mut [u32], at: Reading, depth: u32) -> Reading
-    ensures { Reads one tokens.now depth (< "fixed_array_size" > *) (at, tree.old) (result, tree.new) }
+fn further_sizes(tokens: Tokens, tree: &mut [u32], at: Reading, depth: u32) -> Reading
+    ensures { Reads one tokens.entry.table.now depth (< "fixed_array_size" > *) (at, tree.old) (result, tree.new) }
 {
     let mut sizes = at;
     while tokens.next_kind(sizes) == Kind::OPEN_BRACKET {
@@ -121,13 +121,13 @@ fn further_sizes(tokens: &Tokens, tree: &mut [u32], at: Reading, depth: u32) -> 
 
 // Behind the name of a declarator: array sizes or nothing.
 fn behind_name(
-    tokens: &Tokens,
+    tokens: Tokens,
     tree: &mut [u32],
     start: Reading,
     at: Reading,
     depth: u32,
 ) -> Reading
-    ensures { From one tokens.now depth start several behind_name (at, tree.old) (result, tree.new) }
+    ensures { From one tokens.entry.table.now depth start several behind_name (at, tree.old) (result, tree.new) }
 {
     let next = tokens.next_kind(at);
     if next == Kind::OPEN_BRACKET {
@@ -139,8 +139,8 @@ fn behind_name(
 }
 
 // (50) declarator
-pub fn declarator(tokens: &Tokens, tree: &mut [u32], at: Reading, depth: u32) -> Reading
-    ensures { Reads one tokens.now depth < "declarator" > (at, tree.old) (result, tree.new) }
+pub fn declarator(tokens: Tokens, tree: &mut [u32], at: Reading, depth: u32) -> Reading
+    ensures { Reads one tokens.entry.table.now depth < "declarator" > (at, tree.old) (result, tree.new) }
 {
     let name = tokens.take(at, Kind::IDENTIFIER);
     behind_name(tokens, tree, at, name, depth)
@@ -152,7 +152,7 @@ struct Declared;
 impl Part for Declared {
     ghost rule = { rule "declarator" };
 
-    fn read(tokens: &Tokens, tree: &mut [u32], at: Reading, depth: u32) -> Reading {
+    fn read(tokens: Tokens, tree: &mut [u32], at: Reading, depth: u32) -> Reading {
         declarator(tokens, tree, at, depth)
     }
 }
@@ -163,14 +163,14 @@ struct Enumerated;
 impl Part for Enumerated {
     ghost rule = { rule "enumerator" };
 
-    fn read(tokens: &Tokens, tree: &mut [u32], at: Reading, _depth: u32) -> Reading {
+    fn read(tokens: Tokens, tree: &mut [u32], at: Reading, _depth: u32) -> Reading {
         one_token(tokens, tree, at, Kind::IDENTIFIER, Rule::ENUMERATOR)
     }
 }
 
 // (49) declarators: one alone leaves no record.
-pub fn declarators(tokens: &Tokens, tree: &mut [u32], at: Reading, depth: u32) -> Reading
-    ensures { Reads one tokens.now depth < "declarators" > (at, tree.old) (result, tree.new) }
+pub fn declarators(tokens: Tokens, tree: &mut [u32], at: Reading, depth: u32) -> Reading
+    ensures { Reads one tokens.entry.table.now depth < "declarators" > (at, tree.old) (result, tree.new) }
 {
     let first = declarator(tokens, tree, at, depth);
     let next = tokens.next_kind(first);
@@ -182,8 +182,8 @@ pub fn declarators(tokens: &Tokens, tree: &mut [u32], at: Reading, depth: u32) -
 }
 
 // The enumerators between their braces.
-fn enumerators(tokens: &Tokens, tree: &mut [u32], at: Reading, depth: u32) -> Reading
-    ensures { Reads one tokens.now depth enumerators (at, tree.old) (result, tree.new) }
+fn enumerators(tokens: Tokens, tree: &mut [u32], at: Reading, depth: u32) -> Reading
+    ensures { Reads one tokens.entry.table.now depth enumerators (at, tree.old) (result, tree.new) }
 {
     let inside = tokens.open(at, Kind::OPEN_BRACE, depth);
     let listed = list::<Enumerated>(tokens, tree, inside, inner(depth));
@@ -191,8 +191,8 @@ fn enumerators(tokens: &Tokens, tree: &mut [u32], at: Reading, depth: u32) -> Re
 }
 
 // (78) enum_type
-pub fn enum_type(tokens: &Tokens, tree: &mut [u32], at: Reading, depth: u32) -> Reading
-    ensures { Reads one tokens.now depth < "enum_type" > (at, tree.old) (result, tree.new) }
+pub fn enum_type(tokens: Tokens, tree: &mut [u32], at: Reading, depth: u32) -> Reading
+    ensures { Reads one tokens.entry.table.now depth < "enum_type" > (at, tree.old) (result, tree.new) }
 {
     let word = tokens.take(at, Kind::ENUM);
     let name = tokens.take(word, Kind::IDENTIFIER);
@@ -201,8 +201,8 @@ pub fn enum_type(tokens: &Tokens, tree: &mut [u32], at: Reading, depth: u32) -> 
 }
 
 // (95) param_type_spec
-pub fn param_type_spec(tokens: &Tokens, tree: &mut [u32], at: Reading, depth: u32) -> Reading
-    ensures { Reads one tokens.now depth < "param_type_spec" > (at, tree.old) (result, tree.new) }
+pub fn param_type_spec(tokens: Tokens, tree: &mut [u32], at: Reading, depth: u32) -> Reading
+    ensures { Reads one tokens.entry.table.now depth < "param_type_spec" > (at, tree.old) (result, tree.new) }
 {
     let next = tokens.next_kind(at);
     match next {
@@ -213,8 +213,8 @@ pub fn param_type_spec(tokens: &Tokens, tree: &mut [u32], at: Reading, depth: u3
 }
 
 // (28) const_type
-pub fn const_type(tokens: &Tokens, tree: &mut [u32], at: Reading, depth: u32) -> Reading
-    ensures { Reads one tokens.now depth < "const_type" > (at, tree.old) (result, tree.new) }
+pub fn const_type(tokens: Tokens, tree: &mut [u32], at: Reading, depth: u32) -> Reading
+    ensures { Reads one tokens.entry.table.now depth < "const_type" > (at, tree.old) (result, tree.new) }
 {
     let next = tokens.next_kind(at);
     match next {
@@ -234,8 +234,8 @@ pub fn const_type(tokens: &Tokens, tree: &mut [u32], at: Reading, depth: u32) ->
 }
 
 // (73) switch_type_spec
-pub fn switch_type_spec(tokens: &Tokens, tree: &mut [u32], at: Reading, depth: u32) -> Reading
-    ensures { Reads one tokens.now depth < "switch_type_spec" > (at, tree.old) (result, tree.new) }
+pub fn switch_type_spec(tokens: Tokens, tree: &mut [u32], at: Reading, depth: u32) -> Reading
+    ensures { Reads one tokens.entry.table.now depth < "switch_type_spec" > (at, tree.old) (result, tree.new) }
 {
     let next = tokens.next_kind(at);
     match next {
@@ -247,8 +247,8 @@ pub fn switch_type_spec(tokens: &Tokens, tree: &mut [u32], at: Reading, depth: u
 }
 
 // (76) case_label
-pub fn case_label(tokens: &Tokens, tree: &mut [u32], at: Reading, depth: u32) -> Reading
-    ensures { Reads one tokens.now depth < "case_label" > (at, tree.old) (result, tree.new) }
+pub fn case_label(tokens: Tokens, tree: &mut [u32], at: Reading, depth: u32) -> Reading
+    ensures { Reads one tokens.entry.table.now depth < "case_label" > (at, tree.old) (result, tree.new) }
 {
     let next = tokens.next_kind(at);
     if next == Kind::CASE {
@@ -263,8 +263,8 @@ pub fn case_label(tokens: &Tokens, tree: &mut [u32], at: Reading, depth: u32) ->
 }
 
 // The bound of a sequence, behind a comma, or none.
-fn sequence_bound(tokens: &Tokens, tree: &mut [u32], at: Reading, depth: u32) -> Reading
-    ensures { Reads one tokens.now depth sequence_bound (at, tree.old) (result, tree.new) }
+fn sequence_bound(tokens: Tokens, tree: &mut [u32], at: Reading, depth: u32) -> Reading
+    ensures { Reads one tokens.entry.table.now depth sequence_bound (at, tree.old) (result, tree.new) }
 {
     let next = tokens.next_kind(at);
     if next == Kind::COMMA {
@@ -276,8 +276,8 @@ fn sequence_bound(tokens: &Tokens, tree: &mut [u32], at: Reading, depth: u32) ->
 
 // What a sequence has between its angle brackets.
 #[cycle(sequences)]
-fn sequence_body(tokens: &Tokens, tree: &mut [u32], at: Reading, depth: u32) -> Reading
-    ensures { Reads one tokens.now depth sequence_body (at, tree.old) (result, tree.new) }
+fn sequence_body(tokens: Tokens, tree: &mut [u32], at: Reading, depth: u32) -> Reading
+    ensures { Reads one tokens.entry.table.now depth sequence_body (at, tree.old) (result, tree.new) }
 {
     let inside = tokens.open(at, Kind::OPEN_ANGLE, depth);
     if inside.has_stopped() {
@@ -290,8 +290,8 @@ fn sequence_body(tokens: &Tokens, tree: &mut [u32], at: Reading, depth: u32) -> 
 
 // (80) sequence_type
 #[cycle(sequences)]
-fn sequence_type(tokens: &Tokens, tree: &mut [u32], at: Reading, depth: u32) -> Reading
-    ensures { Reads one tokens.now depth < "sequence_type" > (at, tree.old) (result, tree.new) }
+fn sequence_type(tokens: Tokens, tree: &mut [u32], at: Reading, depth: u32) -> Reading
+    ensures { Reads one tokens.entry.table.now depth < "sequence_type" > (at, tree.old) (result, tree.new) }
 {
     let word = tokens.take(at, Kind::SEQUENCE);
     let body = sequence_body(tokens, tree, word, depth);
@@ -300,8 +300,8 @@ fn sequence_type(tokens: &Tokens, tree: &mut [u32], at: Reading, depth: u32) -> 
 
 // (47) template_type_spec
 #[cycle(sequences)]
-fn template_type_spec(tokens: &Tokens, tree: &mut [u32], at: Reading, depth: u32) -> Reading
-    ensures { Reads one tokens.now depth < "template_type_spec" > (at, tree.old) (result, tree.new) }
+fn template_type_spec(tokens: Tokens, tree: &mut [u32], at: Reading, depth: u32) -> Reading
+    ensures { Reads one tokens.entry.table.now depth < "template_type_spec" > (at, tree.old) (result, tree.new) }
 {
     let next = tokens.next_kind(at);
     match next {
@@ -313,8 +313,8 @@ fn template_type_spec(tokens: &Tokens, tree: &mut [u32], at: Reading, depth: u32
 
 // (45) simple_type_spec
 #[cycle(sequences)]
-pub fn simple_type_spec(tokens: &Tokens, tree: &mut [u32], at: Reading, depth: u32) -> Reading
-    ensures { Reads one tokens.now depth < "simple_type_spec" > (at, tree.old) (result, tree.new) }
+pub fn simple_type_spec(tokens: Tokens, tree: &mut [u32], at: Reading, depth: u32) -> Reading
+    ensures { Reads one tokens.entry.table.now depth < "simple_type_spec" > (at, tree.old) (result, tree.new) }
 {
     let next = tokens.next_kind(at);
     match next {

@@ -21,16 +21,16 @@ use readers_structs::{starts_type, type_spec};
 use readers_types::declarators;
 
 // "supports" and interfaces.
-fn supports(tokens: &Tokens, tree: &mut [u32], at: Reading) -> Reading
-    ensures { Flat one tokens.now supports (at, tree.old) (result, tree.new) }
+fn supports(tokens: Tokens, tree: &mut [u32], at: Reading) -> Reading
+    ensures { Flat one tokens.entry.table.now supports (at, tree.old) (result, tree.new) }
 {
     let word = tokens.take(at, Kind::SUPPORTS);
     scoped_names(tokens, tree, word)
 }
 
 // The interfaces that a value supports, if any.
-fn supported(tokens: &Tokens, tree: &mut [u32], at: Reading) -> Reading
-    ensures { Flat one tokens.now optional_supports (at, tree.old) (result, tree.new) }
+fn supported(tokens: Tokens, tree: &mut [u32], at: Reading) -> Reading
+    ensures { Flat one tokens.entry.table.now optional_supports (at, tree.old) (result, tree.new) }
 {
     let next = tokens.next_kind(at);
     match next {
@@ -40,8 +40,8 @@ fn supported(tokens: &Tokens, tree: &mut [u32], at: Reading) -> Reading
 }
 
 // "truncatable" or nothing.
-fn truncatable(tokens: &Tokens, at: Reading) -> Reading
-    ensures { Takes tokens.now optional_truncatable at result }
+fn truncatable(tokens: Tokens, at: Reading) -> Reading
+    ensures { Takes tokens.entry.table.now optional_truncatable at result }
 {
     let next = tokens.next_kind(at);
     match next {
@@ -51,8 +51,8 @@ fn truncatable(tokens: &Tokens, at: Reading) -> Reading
 }
 
 // ":" and values, and the interfaces that are supported besides.
-fn inherits(tokens: &Tokens, tree: &mut [u32], at: Reading) -> Reading
-    ensures { Flat one tokens.now inherits (at, tree.old) (result, tree.new) }
+fn inherits(tokens: Tokens, tree: &mut [u32], at: Reading) -> Reading
+    ensures { Flat one tokens.entry.table.now inherits (at, tree.old) (result, tree.new) }
 {
     let colon = tokens.take(at, Kind::COLON);
     let word = truncatable(tokens, colon);
@@ -61,8 +61,8 @@ fn inherits(tokens: &Tokens, tree: &mut [u32], at: Reading) -> Reading
 }
 
 // (19) value_inheritance_spec
-fn value_inheritance_spec(tokens: &Tokens, tree: &mut [u32], at: Reading) -> Reading
-    ensures { Flat one tokens.now < "value_inheritance_spec" > (at, tree.old) (result, tree.new) }
+fn value_inheritance_spec(tokens: Tokens, tree: &mut [u32], at: Reading) -> Reading
+    ensures { Flat one tokens.entry.table.now < "value_inheritance_spec" > (at, tree.old) (result, tree.new) }
 {
     let next = tokens.next_kind(at);
     match next {
@@ -78,8 +78,8 @@ fn value_inheritance_spec(tokens: &Tokens, tree: &mut [u32], at: Reading) -> Rea
 }
 
 // The bases of a value, if any: without them rule 19 is not used.
-fn bases(tokens: &Tokens, tree: &mut [u32], at: Reading) -> Reading
-    ensures { Flat one tokens.now optional_bases (at, tree.old) (result, tree.new) }
+fn bases(tokens: Tokens, tree: &mut [u32], at: Reading) -> Reading
+    ensures { Flat one tokens.entry.table.now optional_bases (at, tree.old) (result, tree.new) }
 {
     let next = tokens.next_kind(at);
     match next {
@@ -89,8 +89,8 @@ fn bases(tokens: &Tokens, tree: &mut [u32], at: Reading) -> Reading
 }
 
 // "public" or "private".
-fn visibility(tokens: &Tokens, at: Reading) -> Reading
-    ensures { Takes tokens.now visibility at result }
+fn visibility(tokens: Tokens, at: Reading) -> Reading
+    ensures { Takes tokens.entry.table.now visibility at result }
 {
     let next = tokens.next_kind(at);
     match next {
@@ -100,8 +100,8 @@ fn visibility(tokens: &Tokens, at: Reading) -> Reading
 }
 
 // (22) state_member
-fn state_member(tokens: &Tokens, tree: &mut [u32], at: Reading, depth: u32) -> Reading
-    ensures { Reads one tokens.now depth < "state_member" > (at, tree.old) (result, tree.new) }
+fn state_member(tokens: Tokens, tree: &mut [u32], at: Reading, depth: u32) -> Reading
+    ensures { Reads one tokens.entry.table.now depth < "state_member" > (at, tree.old) (result, tree.new) }
 {
     let word = visibility(tokens, at);
     let spec = type_spec(tokens, tree, word, depth);
@@ -111,8 +111,8 @@ fn state_member(tokens: &Tokens, tree: &mut [u32], at: Reading, depth: u32) -> R
 }
 
 // Parameters, if any.
-fn parameters(tokens: &Tokens, tree: &mut [u32], at: Reading, depth: u32) -> Reading
-    ensures { Reads one tokens.now depth optional_parameters (at, tree.old) (result, tree.new) }
+fn parameters(tokens: Tokens, tree: &mut [u32], at: Reading, depth: u32) -> Reading
+    ensures { Reads one tokens.entry.table.now depth optional_parameters (at, tree.old) (result, tree.new) }
 {
     let next = tokens.next_kind(at);
     match next {
@@ -122,8 +122,8 @@ fn parameters(tokens: &Tokens, tree: &mut [u32], at: Reading, depth: u32) -> Rea
 }
 
 // (23) init_dcl
-fn init_dcl(tokens: &Tokens, tree: &mut [u32], at: Reading, depth: u32) -> Reading
-    ensures { Reads one tokens.now depth < "init_dcl" > (at, tree.old) (result, tree.new) }
+fn init_dcl(tokens: Tokens, tree: &mut [u32], at: Reading, depth: u32) -> Reading
+    ensures { Reads one tokens.entry.table.now depth < "init_dcl" > (at, tree.old) (result, tree.new) }
 {
     let word = tokens.take(at, Kind::FACTORY);
     let name = tokens.take(word, Kind::IDENTIFIER);
@@ -135,8 +135,8 @@ fn init_dcl(tokens: &Tokens, tree: &mut [u32], at: Reading, depth: u32) -> Readi
 }
 
 // (21) value_element
-fn value_element(tokens: &Tokens, tree: &mut [u32], at: Reading, depth: u32) -> Reading
-    ensures { Reads one tokens.now depth < "value_element" > (at, tree.old) (result, tree.new) }
+fn value_element(tokens: Tokens, tree: &mut [u32], at: Reading, depth: u32) -> Reading
+    ensures { Reads one tokens.entry.table.now depth < "value_element" > (at, tree.old) (result, tree.new) }
 {
     let next = tokens.next_kind(at);
     match next {
@@ -155,8 +155,8 @@ fn starts_element(kind: Kind) -> bool
 }
 
 // Elements of a value, as many as there are.
-fn elements(tokens: &Tokens, tree: &mut [u32], at: Reading, depth: u32) -> Reading
-    ensures { Reads one tokens.now depth (< "value_element" > *) (at, tree.old) (result, tree.new) }
+fn elements(tokens: Tokens, tree: &mut [u32], at: Reading, depth: u32) -> Reading
+    ensures { Reads one tokens.entry.table.now depth (< "value_element" > *) (at, tree.old) (result, tree.new) }
 {
     let mut read = at;
     while starts_element(tokens.next_kind(read)) {
@@ -166,8 +166,8 @@ fn elements(tokens: &Tokens, tree: &mut [u32], at: Reading, depth: u32) -> Readi
 }
 
 // Behind the name: the end of (18) value_header and the body of (17) value_dcl.
-fn value_dcl(tokens: &Tokens, tree: &mut [u32], start: Reading, at: Reading, depth: u32) -> Reading
-    ensures { From one tokens.now depth start several value_body (at, tree.old) (result, tree.new) }
+fn value_dcl(tokens: Tokens, tree: &mut [u32], start: Reading, at: Reading, depth: u32) -> Reading
+    ensures { From one tokens.entry.table.now depth start several value_body (at, tree.old) (result, tree.new) }
 {
     let bases = bases(tokens, tree, at);
     let header = node(tree, start, bases, Rule::VALUE_HEADER);
@@ -179,13 +179,13 @@ fn value_dcl(tokens: &Tokens, tree: &mut [u32], start: Reading, at: Reading, dep
 
 // Behind the name: (15) value_box_dcl, (17) value_dcl or (14) value_forward_dcl.
 fn behind_name(
-    tokens: &Tokens,
+    tokens: Tokens,
     tree: &mut [u32],
     start: Reading,
     at: Reading,
     depth: u32,
 ) -> Reading
-    ensures { From one tokens.now depth start several behind_name (at, tree.old) (result, tree.new) }
+    ensures { From one tokens.entry.table.now depth start several behind_name (at, tree.old) (result, tree.new) }
 {
     let next = tokens.next_kind(at);
     if starts_type(next) {
@@ -201,8 +201,8 @@ fn behind_name(
 }
 
 // (13) value, from "valuetype" on.
-pub fn value(tokens: &Tokens, tree: &mut [u32], start: Reading, at: Reading, depth: u32) -> Reading
-    ensures { Within one tokens.now depth start value_rest (at, tree.old) (result, tree.new) }
+pub fn value(tokens: Tokens, tree: &mut [u32], start: Reading, at: Reading, depth: u32) -> Reading
+    ensures { Within one tokens.entry.table.now depth start value_rest (at, tree.old) (result, tree.new) }
 {
     let word = tokens.take(at, Kind::VALUETYPE);
     let name = tokens.take(word, Kind::IDENTIFIER);
@@ -211,13 +211,13 @@ pub fn value(tokens: &Tokens, tree: &mut [u32], start: Reading, at: Reading, dep
 
 // (13) value, behind "custom": one with a body.
 pub fn custom_value(
-    tokens: &Tokens,
+    tokens: Tokens,
     tree: &mut [u32],
     start: Reading,
     at: Reading,
     depth: u32,
 ) -> Reading
-    ensures { Within one tokens.now depth start custom_rest (at, tree.old) (result, tree.new) }
+    ensures { Within one tokens.entry.table.now depth start custom_rest (at, tree.old) (result, tree.new) }
 {
     let word = tokens.take(at, Kind::VALUETYPE);
     let name = tokens.take(word, Kind::IDENTIFIER);
@@ -226,13 +226,13 @@ pub fn custom_value(
 
 // (13) value, behind "abstract": (16) value_abs_dcl or (14) value_forward_dcl.
 pub fn abstract_value(
-    tokens: &Tokens,
+    tokens: Tokens,
     tree: &mut [u32],
     start: Reading,
     at: Reading,
     depth: u32,
 ) -> Reading
-    ensures { Within one tokens.now depth start abstract_rest (at, tree.old) (result, tree.new) }
+    ensures { Within one tokens.entry.table.now depth start abstract_rest (at, tree.old) (result, tree.new) }
 {
     let word = tokens.take(at, Kind::VALUETYPE);
     let name = tokens.take(word, Kind::IDENTIFIER);

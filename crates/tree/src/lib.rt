@@ -64,6 +64,6 @@ pub fn read_tree(tokens: &[u32], count: usize, text: usize, tree: &mut [u32], de
     let list = &tokens[..TOKEN_WIDTH * count];
     let listed = Tokens::new(list);
     let start = Reading::new();
-    let end = specification(&listed, tree, start, depth);
+    let end = specification(listed, tree, start, depth);
     conclude(list, count as u32, text as u32, tree, end)
 }

@@ -7,22 +7,22 @@ use Rattle.readers_core.proofs.Loops.{no_turn, turn_less, turn_again, turned}
 use Rattle.readers_core.proofs.Parts.{◌then◌}
 use Rattle.readers_core.proofs.further.Goals as goal
 
-pub loop-comma-smaller : goal.loop-comma-smaller
+pub loop-tokens-smaller : goal.loop-tokens-smaller
 unfolding computing
-loop-comma-smaller g c =
-    turn_less (only ",") c.next_kind.ensures (same c.eq.ensures c.loop-comma-test.true) tt
+loop-tokens-smaller g c =
+    turn_less (only ",") c.next_kind.ensures (same c.eq.ensures c.loop-tokens-test.true) tt
     (c.take-comma.ensures.reads _ _ then c.read-last.ensures)
 
-pub loop-comma-preserved : goal.loop-comma-preserved
+pub loop-tokens-preserved : goal.loop-tokens-preserved
 unfolding computing
-loop-comma-preserved g c =
-    turn_again (only ",") c.next_kind.ensures (same c.eq.ensures c.loop-comma-test.true) tt
+loop-tokens-preserved g c =
+    turn_again (only ",") c.next_kind.ensures (same c.eq.ensures c.loop-tokens-test.true) tt
     (c.take-comma.ensures.reads _ _ then c.read-last.ensures) c.read-last.auto.tree
-    c.loop-comma.invariant
+    c.loop-tokens.invariant
 
 pub returns : goal.returns
 unfolding computing
-returns g c = turned (only ",") c.next_kind.ensures (tt, (differs c.eq.ensures c.loop-comma-test.false)) tt c.loop-comma.invariant
+returns g c = turned (only ",") c.next_kind.ensures (tt, (differs c.eq.ensures c.loop-tokens-test.false)) tt c.loop-tokens.invariant
 
-pub loop-comma-init : goal.loop-comma-init
-loop-comma-init g c = no_turn
+pub loop-tokens-init : goal.loop-tokens-init
+loop-tokens-init g c = no_turn

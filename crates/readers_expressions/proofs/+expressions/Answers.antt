@@ -90,7 +90,7 @@ operation-returns t c =
     let right = c.binary-operand in
     let next = c.next_kind-next.ensures in
     let reads = subst
-    (λ (n : ℕ). Reads one c.args.tokens.now c.args.depth (call n) (c.take-operator.result, c.args.tree.now)
+    (λ (n : ℕ). Reads one c.args.tokens.table.now c.args.depth (call n) (c.take-operator.result, c.args.tree.now)
     (right.result, right.new.tree)) c.tighter.ensures right.ensures.reads in
     let read = operated (leveled _ _ (c.requires.0 ∙ ap level_of' (sym next)) c.requires.1) next c.take-operator.ensures
     reads c.node.ensures (omega (arith, right.ensures.looser, c.tighter.ensures)) in

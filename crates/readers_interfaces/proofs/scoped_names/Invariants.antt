@@ -13,7 +13,7 @@ use Rattle.readers_interfaces.proofs.scoped_names.Given as goal
 abbrev pub invariant-loop-comma : goal.invariant-loop-comma
 invariant-loop-comma l =
     (length l.tree ≡ length l.initial.tree) ×
-    ((n d : ℕ) (start : Reading) → Names n → Far one l.tokens d start (behind_comma n) (l.initial.names, l.initial.tree) (l.names, l.tree))
+    ((n d : ℕ) (start : Reading) → Names n → Far one l.tokens.table.now d start (behind_comma n) (l.initial.names, l.initial.tree) (l.names, l.tree))
 
 abbrev pub decreases-loop-comma : goal.decreases-loop-comma
-decreases-loop-comma l = remaining l.tokens l.names
+decreases-loop-comma l = remaining l.tokens.table.now l.names

@@ -9,7 +9,7 @@ use Rattle.readers_names.proofs.further_names.Given as goal
 
 abbrev pub invariant-loop-start : goal.invariant-loop-start
 invariant-loop-start l =
-    (length l.tree ≡ length l.initial.tree) × ((d : ℕ) → Far one l.tokens d l.start further_name (l.initial.names, l.initial.tree) (l.names, l.tree))
+    (length l.tree ≡ length l.initial.tree) × ((d : ℕ) → Far one l.tokens.table.now d l.start further_name (l.initial.names, l.initial.tree) (l.names, l.tree))
 
 abbrev pub decreases-loop-start : goal.decreases-loop-start
-decreases-loop-start l = remaining l.tokens l.names
+decreases-loop-start l = remaining l.tokens.table.now l.names

@@ -9,7 +9,7 @@ use Rattle.readers_names.proofs.neighbours.Given as goal
 
 abbrev pub invariant-loop-kind : goal.invariant-loop-kind
 invariant-loop-kind l =
-    (R : Course) (d : ℕ) (w : List ℕ) (start : Reading) → Far R l.tokens d start (token l.kind) (l.fn.at, w) (l.strings, w)
+    (R : Course) (d : ℕ) (w : List ℕ) (start : Reading) → Far R l.tokens.table.now d start (token l.kind) (l.fn.at, w) (l.strings, w)
 
 abbrev pub decreases-loop-kind : goal.decreases-loop-kind
-decreases-loop-kind l = remaining l.tokens l.strings
+decreases-loop-kind l = remaining l.tokens.table.now l.strings

@@ -12,7 +12,7 @@ use Rattle.readers_operations.proofs.further_strings.Given as goal
 abbrev pub invariant-loop-comma : goal.invariant-loop-comma
 invariant-loop-comma l =
     (R : Course) (d : ℕ) (w : List ℕ) (start : Reading) →
-    Far R l.tokens d start (seq (token (kind_of ",")) (string_literal string)) (l.initial.listed, w) (l.listed, w)
+    Far R l.tokens.table.now d start (seq (token (kind_of ",")) (string_literal string)) (l.initial.listed, w) (l.listed, w)
 
 abbrev pub decreases-loop-comma : goal.decreases-loop-comma
-decreases-loop-comma l = remaining l.tokens l.listed
+decreases-loop-comma l = remaining l.tokens.table.now l.listed

@@ -28,7 +28,7 @@ decreases-module_definition l = ranks * l.depth + rank "module_definition"
 
 abbrev pub invariant-definitions-loop-last : goal.invariant-definitions-loop-last
 invariant-definitions-loop-last l =
-    Beginning < "definition" > l.tokens l.initial.tree l.initial.last l.depth l.initial.last l.tree l.last
+    Beginning < "definition" > l.tokens.table.now l.initial.tree l.initial.last l.depth l.initial.last l.tree l.last
 
 abbrev pub decreases-definitions-loop-last : goal.decreases-definitions-loop-last
-decreases-definitions-loop-last l = remaining l.tokens l.last
+decreases-definitions-loop-last l = remaining l.tokens.table.now l.last

@@ -5,7 +5,7 @@ use Rattle.readers_core.proofs.Repetition.{remaining}
 use Rattle.readers_structs.proofs.further_labels.Given as goal
 
 abbrev pub invariant-loop-tree : goal.invariant-loop-tree
-invariant-loop-tree l = Turning (< "case_label" >) l.tokens l.initial.tree l.initial.last l.depth l.initial.last l.tree l.last
+invariant-loop-tree l = Turning (< "case_label" >) l.tokens.table.now l.initial.tree l.initial.last l.depth l.initial.last l.tree l.last
 
 abbrev pub decreases-loop-tree : goal.decreases-loop-tree
-decreases-loop-tree l = remaining l.tokens l.last
+decreases-loop-tree l = remaining l.tokens.table.now l.last

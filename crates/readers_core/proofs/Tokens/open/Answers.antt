@@ -9,22 +9,22 @@ use Rattle.readers_core.proofs.Tokens.open.Goals as goal
 
 pub overflow_add-result : goal.overflow_add-result
 overflow_add-result c =
-    let ks = c.args.self.now in
-    let there = sym (c.kind_at.ensures.kind ∙ ap (λ (i : ℕ). kind_at ks i) c.low.ensures) ∙ same c.eq.ensures c.if-eq.true in
-    omega (arith, stays_low ks c.args.mark c.at.inside.state c.kind_at.ensures.addressable c.requires c.at.invariant there)
+    let ks = c.args.self.table.now in
+    let there = sym (c.kind_at.ensures ∙ ap (λ (i : ℕ). kind_at ks i) c.low.ensures) ∙ same c.eq.ensures c.if-eq.true in
+    omega (arith, stays_low ks c.args.mark c.at.inside.state c.args.self.addressable c.requires c.at.invariant there)
 
 pub invariant_of-result : goal.invariant_of-result
 invariant_of-result c =
-    let ks = c.args.self.now in
-    let there = sym (c.kind_at.ensures.kind ∙ ap (λ (i : ℕ). kind_at ks i) c.low.ensures) ∙ same c.eq.ensures c.if-eq.true in
-    let low = stays_low ks c.args.mark c.at.inside.state c.kind_at.ensures.addressable c.requires c.at.invariant there in
+    let ks = c.args.self.table.now in
+    let there = sym (c.kind_at.ensures ∙ ap (λ (i : ℕ). kind_at ks i) c.low.ensures) ∙ same c.eq.ensures c.if-eq.true in
+    let low = stays_low ks c.args.mark c.at.inside.state c.args.self.addressable c.requires c.at.invariant there in
     λ l. omega (arith, l, low)
 
 pub returns-then-depth-gt0 : goal.returns-then-depth-gt0
 returns-then-depth-gt0 c =
-    let ks = c.args.self.now in
-    let there = sym (c.kind_at.ensures.kind ∙ ap (λ (i : ℕ). kind_at ks i) c.low.ensures) ∙ same c.eq.ensures c.if-eq.true in
-    rw (← c.at.view_is) (opens_past ks c.args.mark c.at.inside.state c.kind_at.ensures.addressable c.requires c.at.invariant there
+    let ks = c.args.self.table.now in
+    let there = sym (c.kind_at.ensures ∙ ap (λ (i : ℕ). kind_at ks i) c.low.ensures) ∙ same c.eq.ensures c.if-eq.true in
+    rw (← c.at.view_is) (opens_past ks c.args.mark c.at.inside.state c.args.self.addressable c.requires c.at.invariant there
     c.if-depth-gt0.true)
 
 pub returns-then-at-ge-STOP : goal.returns-then-at-ge-STOP
@@ -34,6 +34,6 @@ pub returns : goal.returns
 returns c =
     let s = c.at.inside.state in
     let going = c.if-at-ge-STOP.false in
-    let found = c.kind_at.ensures.kind ∙ ap (λ (i : ℕ). kind_at c.args.self.now i) (c.low.ensures ∙ sym (going_at s going)) in
+    let found = c.kind_at.ensures ∙ ap (λ (i : ℕ). kind_at c.args.self.table.now i) (c.low.ensures ∙ sym (going_at s going)) in
     rw (← c.at.view_is) (opens_blamed (goes_on s going) (λ e. differs c.eq.ensures c.if-eq.false (found ∙ e)) c.blamed.ensures.answers
     c.blamed.ensures.places)
