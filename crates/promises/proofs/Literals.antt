@@ -23,7 +23,10 @@ use Rattle.text.specs.Numbers.{followed, longest, number, integer, floating, fix
 use Rattle.text.specs.Tokens.{Tokens, tokens, fault, token, before, then, tokens_of}
 use Rattle.text.specs.Words.{keyword_but_case, spelled, sorted, word, escaped_word}
 use Rattle.text.specs.declared.Lexeme.{Lexeme}
-use Rattle.text.specs.declared.Lexeme.TheVariants.{Blank, Token, NoLexeme, Open, BadLiteral, OtherCase}
+use Rattle.text.specs.declared.Lexeme.TheVariants.{Blank, Token}
+use Rattle.text.specs.declared.Fault as declared
+use Rattle.text.specs.declared.Fault.TheVariants.{NoLexeme, Open, BadLiteral, OtherCase}
+use Rattle.std.specs.Prelude.{Option, Some, None, Result, Ok, Err}
 use Rattle.text.proofs.Choices.{either, choose}
 use Rattle.text.proofs.Rests.{past_end}
 use Rattle.literals.proofs.Taken.{bounds, Taken, taken_none, taken_one, taken_more, taken_within, LeftOpen}
@@ -45,13 +48,10 @@ not_plain b h = go (plain b) refl
     go false e = refl
 
 -- each byte of a literal stands for itself
-abbrev Plain : List ℕ → Lexeme → Type 0
-Plain bs (Token k n) = IsLiteral k → Taken bs n
-Plain bs (Blank n) = Unit
-Plain bs NoLexeme = Unit
-Plain bs Open = Unit
-Plain bs BadLiteral = Unit
-Plain bs (OtherCase k) = Unit
+abbrev Plain : List ℕ → Result Lexeme declared.Fault → Type 0
+Plain bs (Ok (Token k n)) = IsLiteral k → Taken bs n
+Plain bs (Ok (Blank n)) = Unit
+Plain bs (Err f) = Unit
 
 -- keywords and marks have greater kinds than literals
 search_other : (k : ℕ) (like : List ℕ → List ℕ → Bool) (w : List ℕ) (vs : List String) → kinds.wide_string < k →
@@ -61,7 +61,7 @@ search_other k like w (v ∷ vs) h =
     choose (λ (n : ℕ). IsLiteral n → ⊥) (like w (kinds.bytes v)) (λ e l. omega arith) (search_other (suc k) like w vs (omega arith))
 
 module _ (bs : List ℕ) where
-  abbrev Here : Lexeme → Type 0
+  abbrev Here : Result Lexeme declared.Fault → Type 0
   Here = Plain bs
 
   quoted_plain : (wide : Bool) (n : ℕ) → Taken bs n → quote (at bs n) ≡ true → Here (quoted wide n bs)
@@ -75,9 +75,9 @@ module _ (bs : List ℕ) where
   unfolding block_comment closed
   block_comment_plain = go (to_close (drop 2 bs))
     where
-      go : (n : ℕ) → Here (closed n)
-      go zero = tt
-      go (suc n) = tt
+      go : (n : Option ℕ) → Here (closed n)
+      go None = tt
+      go (Some n) = tt
 
   sorted_plain : (w : List ℕ) (n : ℕ) → Here (sorted w n)
   unfolding sorted kinds.keyword
@@ -96,7 +96,7 @@ module _ (bs : List ℕ) where
       (choose Here (ltb (integer bs) (floating bs)) (λ e. followed_plain kinds.floating (floating bs) (omega arith))
       (choose Here (ltb 0 (integer bs)) (λ e. followed_plain kinds.integer (integer bs) (omega arith)) tt))
 
-  one_mark_plain : (w : List ℕ) (n : ℕ) → Here (Token (kinds.mark w) n)
+  one_mark_plain : (w : List ℕ) (n : ℕ) → Here (Ok (Token (kinds.mark w) n))
   unfolding kinds.mark
   one_mark_plain w n l = absurd (search_other kinds.first_mark kinds.same w kinds.marks (omega arith) l)
 
@@ -115,13 +115,13 @@ module _ (bs : List ℕ) where
       (λ e. sorted_plain (spelled bs) (run wordly bs)) (λ l. absurd (omega arith)) number_plain mark_plain
 
 -- a token that ends before place n, or a bad literal
-abbrev EndsOrBad : ℕ → Lexeme → Type 0
-EndsOrBad n (Token k m) = m ≤ n
-EndsOrBad n BadLiteral = Unit
-EndsOrBad n (Blank m) = ⊥
-EndsOrBad n NoLexeme = ⊥
-EndsOrBad n Open = ⊥
-EndsOrBad n (OtherCase k) = ⊥
+abbrev EndsOrBad : ℕ → Result Lexeme declared.Fault → Type 0
+EndsOrBad n (Ok (Token k m)) = m ≤ n
+EndsOrBad n (Ok (Blank m)) = ⊥
+EndsOrBad n (Err BadLiteral) = Unit
+EndsOrBad n (Err NoLexeme) = ⊥
+EndsOrBad n (Err Open) = ⊥
+EndsOrBad n (Err (OtherCase k)) = ⊥
 
 -- the line goes on to a byte that does not stand for itself
 module _ (bs : List ℕ) (high : ℕ) (other : plain (at bs high) ≡ false)
@@ -137,7 +137,7 @@ module _ (bs : List ℕ) (high : ℕ) (other : plain (at bs high) ≡ false)
           let here : at (drop n bs) (high - n) ≡ at bs high = get_or-drop n bs (high - n) end ∙ ap (at bs) place in
           absurd (false≢true (sym other ∙ ap plain (sym here) ∙ t (high - n) (omega arith)))
 
-  not_open : (n : ℕ) → n ≤ high → LeftOpen (drop n bs) → EndsOrBad high Open
+  not_open : (n : ℕ) → n ≤ high → LeftOpen (drop n bs) → EndsOrBad high (Err Open)
   not_open n h o =
       let here = get_or-drop n bs o.place end in
       absurd (false≢true (sym (in_line (n + o.place) (not_passed n o.place h o.before)) ∙ rw (sym here) o.stops))
@@ -187,16 +187,16 @@ module _ (text : List ℕ) where
   in_front t (tokens ts) p h = in_list t ts p h
   in_front t (fault f) p h = h
 
-  one_lexeme : (place : ℕ) (rest : ℕ → Tokens) (l : Lexeme) → Plain (drop place text) l →
+  one_lexeme : (place : ℕ) (rest : ℕ → Tokens) (l : Result Lexeme declared.Fault) → Plain (drop place text) l →
       ((b : OtherByte text place) → EndsOrBad b.behind l) → ((n : ℕ) → Said (rest n)) → Said (then l place rest)
   unfolding then
-  one_lexeme place rest (Blank n) p e more = more n
-  one_lexeme place rest (Token k n) p e more =
+  one_lexeme place rest (Ok (Blank n)) p e more = more n
+  one_lexeme place rest (Ok (Token k n)) p e more =
       in_front (token k place n) (rest n) (λ l j m. printable _ (ap plain (sym (get_or-drop place text j end)) ∙ p l j m)) (more n)
-  one_lexeme place rest NoLexeme p e more = λ b. absurd (e b)
-  one_lexeme place rest Open p e more = λ b. absurd (e b)
-  one_lexeme place rest BadLiteral p e more = λ b. refl
-  one_lexeme place rest (OtherCase k) p e more = λ b. absurd (e b)
+  one_lexeme place rest (Err NoLexeme) p e more = λ b. absurd (e b)
+  one_lexeme place rest (Err Open) p e more = λ b. absurd (e b)
+  one_lexeme place rest (Err BadLiteral) p e more = λ b. refl
+  one_lexeme place rest (Err (OtherCase k)) p e more = λ b. absurd (e b)
 
   said : Said (tokens_of text)
   said =

@@ -200,9 +200,10 @@ module _ {E : Edition} (offered : Offered E) where
 pub starred_samples : All Holds starred
 starred_samples = starred_hold
 
--- Request A2, of edition 1. A word is compared in full in one place of the code, `words::compare`: it asks, and so it is proved at each call, that the
--- keyword is near the word and that fewer than three comparisons are counted, and counts one more. `words::search` is proved to answer `sorted-among` and
--- to end with the count `comparisons`, of the keywords near the word. That nothing else compares or sets the count is seen in crates/words/src/lib.rt.
+-- Request A2, of edition 1. A word is compared in full in one place of the code, `Row::compare` of the crate words: it asks, and so it is proved at each
+-- call, that the keyword is near the word and that fewer than three comparisons are counted, and counts one more. `words::search` is proved to answer
+-- `sorted-among` and to end with the count `comparisons`, of the keywords near the word. That nothing else compares or sets the count is seen in
+-- crates/words/src: in keywords.rt, where `Row::compare` is, and in lib.rt, which calls it.
 
 module _ (w : List ℕ) where
   -- the keywords near a word are keywords, with its length and, case aside, its first letter;
