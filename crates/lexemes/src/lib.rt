@@ -42,12 +42,8 @@ fn again(found: Result<Lexeme, Fault>) -> Result<Lexeme, Fault>
     ensures { result ≡ found }
 {
     match found {
-        Ok(Lexeme::Blank(size)) => Ok(Lexeme::Blank(size)),
-        Ok(Lexeme::Token(kind, size)) => Ok(Lexeme::Token(kind, size)),
-        Err(Fault::NoLexeme) => Err(Fault::NoLexeme),
-        Err(Fault::Open) => Err(Fault::Open),
-        Err(Fault::BadLiteral) => Err(Fault::BadLiteral),
-        Err(Fault::OtherCase(kind)) => Err(Fault::OtherCase(kind)),
+        Ok(lexeme) => Ok(lexeme),
+        Err(fault) => Err(fault),
     }
 }
 
