@@ -49,11 +49,7 @@ fn run(rt: &impl Print, text: &[u8], table: &mut [u32]) -> io::Result<()> {
         " => {} {} {} {}",
         reply.number, reply.place, reply.tokens, reply.records
     )?;
-    let count = if reply.is_accepted() {
-        reply.tokens
-    } else {
-        0
-    };
+    let count = if reply.is_accepted() { reply.tokens } else { 0 };
     print_table(rt, table, count as usize)
 }
 
