@@ -11,7 +11,7 @@ use replies::Reply;
 use std::io;
 use std::io::Print;
 use tables::TOKEN_WIDTH;
-use text::{Class, Digit, InLine};
+use text::{Class, InLine};
 
 // The most bytes of the input.
 const INPUT_SIZE: usize = 65536;
@@ -24,7 +24,7 @@ const HEX: u8 = 16;
 const DECIMAL: u8 = 10;
 
 // The most numbers of a table: the most that two hex digits, read as decimal ones, can say.
-const TABLE_SIZE: usize = 165;
+const TABLE_SIZE: usize = ((HEX - 1) * DECIMAL + HEX - 1) as usize;
 
 // What each number of a table is before the call.
 const UNTOUCHED: u32 = 9;
@@ -55,7 +55,7 @@ fn run(rt: &impl Print, text: &[u8], table: &mut [u32]) -> io::Result<()> {
 
 // The value of a hex digit, and 0 for any other byte.
 fn value(digit: u8) -> u8
-    ensures { result < 16 }
+    ensures { result < HEX }
 {
     match digit {
         b'0'..=b'9' => digit - b'0',
@@ -92,7 +92,7 @@ fn text_of(line: &[u8], text: &mut [u8]) -> usize
 
 // Runs the text of a line on a table of a length.
 fn run_text(rt: &impl Print, line: &[u8], room: usize) -> io::Result<()>
-    requires { room ≤ 165 }
+    requires { room ≤ TABLE_SIZE }
 {
     let mut text = [0u8; TEXT_SIZE];
     let size = text_of(line, &mut text);
@@ -102,19 +102,25 @@ fn run_text(rt: &impl Print, line: &[u8], room: usize) -> io::Result<()>
 
 fn run_line(rt: &impl Print, line: &[u8]) -> io::Result<()> {
     rt.write_all(line)?;
-    if let [tens, ones, _, rest @ ..] = line {
-        if Digit::has(*tens) {
-            let room = value(*tens) * DECIMAL + value(*ones);
-            run_text(rt, rest, room as usize)?;
-        }
+    if let [tens @ b'0'..=b'9', ones, _, rest @ ..] = line {
+        let room = value(*tens) * DECIMAL + value(*ones);
+        run_text(rt, rest, room as usize)?;
     }
     println!(rt)
 }
 
-// Runs each line. Byte 10 and byte 13 each end one, and the last needs no end.
+// A line without the byte that ends it, if one does.
+fn without_end(line: &[u8]) -> &[u8] {
+    match line {
+        [front @ .., last] if !InLine::has(*last) => front,
+        _ => line,
+    }
+}
+
+// Runs each line. Byte 10 and byte 13 each end one, so between the two stands an empty line; the last line needs no end.
 fn run_lines(rt: &impl Print, input: &[u8]) -> io::Result<()> {
     for line in input.split_inclusive(|byte| !InLine::has(*byte)) {
-        run_line(rt, &line[..text::run_of::<InLine>(line)])?;
+        run_line(rt, without_end(line))?;
     }
     Ok(())
 }
