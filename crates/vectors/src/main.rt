@@ -117,7 +117,7 @@ fn without_end(line: &[u8]) -> &[u8] {
     }
 }
 
-// Runs each line. Byte 10 and byte 13 each end one, so between the two stands an empty line; the last line needs no end.
+// Runs each line. Byte 10 and byte 13 each end one, so that the two in a row give an empty line; the last needs no end.
 fn run_lines(rt: &impl Print, input: &[u8]) -> io::Result<()> {
     for line in input.split_inclusive(|byte| !InLine::has(*byte)) {
         run_line(rt, without_end(line))?;
