@@ -32,7 +32,7 @@ fn slash(bs: &[u8]) -> Result<Lexeme, Fault>
     match text::byte_at(bs, 1) {
         Some(b'/') => line_comment(bs),
         Some(b'*') => block_comment(bs),
-        _ => Ok(Lexeme::Token(Kind::SLASH, 1)),
+        _ => Ok(Lexeme::Token(Kind::SLASH.0, 1)),
     }
 }
 
@@ -42,8 +42,12 @@ fn again(found: Result<Lexeme, Fault>) -> Result<Lexeme, Fault>
     ensures { result ≡ found }
 {
     match found {
-        Ok(lexeme) => Ok(lexeme),
-        Err(fault) => Err(fault),
+        Ok(Lexeme::Blank(size)) => Ok(Lexeme::Blank(size)),
+        Ok(Lexeme::Token(kind, size)) => Ok(Lexeme::Token(kind, size)),
+        Err(Fault::NoLexeme) => Err(Fault::NoLexeme),
+        Err(Fault::Open) => Err(Fault::Open),
+        Err(Fault::BadLiteral) => Err(Fault::BadLiteral),
+        Err(Fault::OtherCase(kind)) => Err(Fault::OtherCase(kind)),
     }
 }
 

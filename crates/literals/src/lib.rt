@@ -31,21 +31,21 @@ impl Width {
         }
     }
 
-    fn character_kind(self) -> Kind
+    fn character_kind(self) -> u32
         ensures { result ≡ literals.character_kind (is_wide self) }
     {
         match self {
-            Width::Narrow => Kind::CHARACTER,
-            Width::Wide => Kind::WIDE_CHARACTER,
+            Width::Narrow => Kind::CHARACTER.0,
+            Width::Wide => Kind::WIDE_CHARACTER.0,
         }
     }
 
-    fn string_kind(self) -> Kind
+    fn string_kind(self) -> u32
         ensures { result ≡ literals.string_kind (is_wide self) }
     {
         match self {
-            Width::Narrow => Kind::STRING_LITERAL,
-            Width::Wide => Kind::WIDE_STRING_LITERAL,
+            Width::Narrow => Kind::STRING_LITERAL.0,
+            Width::Wide => Kind::WIDE_STRING_LITERAL.0,
         }
     }
 }

@@ -26,52 +26,52 @@ pub fn starts_mark(byte: u8) -> bool
 // The kind of the mark that is this byte. The marks stand in four dense ranges of bytes, chosen first: each match is then a small
 // table, where one for all of them is a jump.
 #[tactic(auto, unfolding(kinds::specs::Kinds::mark))]
-fn one_byte(byte: u8) -> Option<Kind>
+fn one_byte(byte: u8) -> Option<u32>
     ensures { result ≡ kind_of (byte ∷ []) }
 {
     if byte <= b'/' {
         return match byte {
-            b'%' => Some(Kind::PERCENT),
-            b'&' => Some(Kind::AMPERSAND),
-            b'(' => Some(Kind::OPEN_PARENTHESIS),
-            b')' => Some(Kind::CLOSE_PARENTHESIS),
-            b'*' => Some(Kind::STAR),
-            b'+' => Some(Kind::PLUS),
-            b',' => Some(Kind::COMMA),
-            b'-' => Some(Kind::MINUS),
-            b'/' => Some(Kind::SLASH),
+            b'%' => Some(Kind::PERCENT.0),
+            b'&' => Some(Kind::AMPERSAND.0),
+            b'(' => Some(Kind::OPEN_PARENTHESIS.0),
+            b')' => Some(Kind::CLOSE_PARENTHESIS.0),
+            b'*' => Some(Kind::STAR.0),
+            b'+' => Some(Kind::PLUS.0),
+            b',' => Some(Kind::COMMA.0),
+            b'-' => Some(Kind::MINUS.0),
+            b'/' => Some(Kind::SLASH.0),
             _ => None,
         };
     }
     if byte <= b'>' {
         return match byte {
-            b':' => Some(Kind::COLON),
-            b';' => Some(Kind::SEMICOLON),
-            b'<' => Some(Kind::OPEN_ANGLE),
-            b'=' => Some(Kind::EQUALS),
-            b'>' => Some(Kind::CLOSE_ANGLE),
+            b':' => Some(Kind::COLON.0),
+            b';' => Some(Kind::SEMICOLON.0),
+            b'<' => Some(Kind::OPEN_ANGLE.0),
+            b'=' => Some(Kind::EQUALS.0),
+            b'>' => Some(Kind::CLOSE_ANGLE.0),
             _ => None,
         };
     }
     if byte <= b'^' {
         return match byte {
-            b'[' => Some(Kind::OPEN_BRACKET),
-            b']' => Some(Kind::CLOSE_BRACKET),
-            b'^' => Some(Kind::CARET),
+            b'[' => Some(Kind::OPEN_BRACKET.0),
+            b']' => Some(Kind::CLOSE_BRACKET.0),
+            b'^' => Some(Kind::CARET.0),
             _ => None,
         };
     }
     match byte {
-        b'{' => Some(Kind::OPEN_BRACE),
-        b'|' => Some(Kind::BAR),
-        b'}' => Some(Kind::CLOSE_BRACE),
-        b'~' => Some(Kind::TILDE),
+        b'{' => Some(Kind::OPEN_BRACE.0),
+        b'|' => Some(Kind::BAR.0),
+        b'}' => Some(Kind::CLOSE_BRACE.0),
+        b'~' => Some(Kind::TILDE.0),
         _ => None,
     }
 }
 
 // The kind of the mark that is the first two bytes. Such a mark is one byte twice.
-fn two_bytes(bs: &[u8]) -> Option<Kind>
+fn two_bytes(bs: &[u8]) -> Option<u32>
     ensures { result ≡ kind_of (at bs.now 0 ∷ at bs.now 1 ∷ []) }
 {
     if bs.len() < 2 {
@@ -82,9 +82,9 @@ fn two_bytes(bs: &[u8]) -> Option<Kind>
         return None;
     }
     match first {
-        b':' => Some(Kind::SCOPE),
-        b'<' => Some(Kind::SHIFT_LEFT),
-        b'>' => Some(Kind::SHIFT_RIGHT),
+        b':' => Some(Kind::SCOPE.0),
+        b'<' => Some(Kind::SHIFT_LEFT.0),
+        b'>' => Some(Kind::SHIFT_RIGHT.0),
         _ => None,
     }
 }

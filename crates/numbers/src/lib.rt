@@ -84,7 +84,7 @@ fn exponent(bs: &[u8]) -> usize
 
 // A number of a kind and a length, unless a letter, digit or underscore follows it directly.
 #[tactic(auto, unfolding(text::specs::Numbers::followed))]
-fn followed(bs: &[u8], kind: Kind, size: usize) -> Result<Lexeme, Fault>
+fn followed(bs: &[u8], kind: u32, size: usize) -> Result<Lexeme, Fault>
     ensures { result ≡ numbers.followed bs.now kind size }
 {
     if byte_at(bs, size).is_some_and(Wordly::has) {
@@ -101,11 +101,11 @@ pub fn number(bs: &[u8]) -> Result<Lexeme, Fault>
     let whole = run_of::<Digit>(bs);
     let size = mantissa(bs, whole).ok_or(Fault::NoLexeme)?;
     if let Some(b'd' | b'D') = byte_at(bs, size) {
-        return followed(bs, Kind::FIXED_LITERAL, size + 1);
+        return followed(bs, Kind::FIXED_LITERAL.0, size + 1);
     }
     let end = size + exponent(&bs[size..]);
     if whole < end {
-        return followed(bs, Kind::FLOATING, end);
+        return followed(bs, Kind::FLOATING.0, end);
     }
-    followed(bs, Kind::INTEGER, integer(bs, whole))
+    followed(bs, Kind::INTEGER.0, integer(bs, whole))
 }

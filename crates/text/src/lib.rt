@@ -7,15 +7,13 @@ ghost use Rattle.text.specs.Bytes.{at, end, run, space, letter, digit, octal, he
 ghost use Rattle.text.specs.Classes.{starless, ordinary, block};
 ghost use Rattle.text.specs.Literals.{plain};
 
-use kinds::Kind;
-
 // What stands at the front of the rest of a text. Lengths are in bytes.
 #[derive(Clone, Copy, PartialEq, Eq)]
 pub enum Lexeme {
     // White space, or a comment.
     Blank(usize),
     // A token: its kind and its length.
-    Token(Kind, usize),
+    Token(u32, usize),
 }
 
 // Why no lexeme stands there.
@@ -28,7 +26,7 @@ pub enum Fault {
     // Reply 4: a bad literal, with a byte, an escape or a number of characters that is not allowed.
     BadLiteral,
     // Reply 5: the keyword of this kind, in another case.
-    OtherCase(Kind),
+    OtherCase(u32),
 }
 
 // What stands next inside a character or string literal. Lengths are in bytes.

@@ -46,7 +46,7 @@ fn fault_reply(fault: Fault, place: u32) -> Reply
         Fault::NoLexeme => Reply::no_lexeme(place),
         Fault::Open => Reply::left_open(place),
         Fault::BadLiteral => Reply::bad_literal(place),
-        Fault::OtherCase(kind) => Reply::other_case(place, u32::from(kind)),
+        Fault::OtherCase(kind) => Reply::other_case(place, kind),
     }
 }
 
@@ -62,7 +62,7 @@ fn scan(text: &[u8], tokens: &mut [u32]) -> Result<usize, Reply>
         match lexeme(&text[at..]) {
             Ok(Lexeme::Blank(size)) => at = past_space(text, at + size),
             Ok(Lexeme::Token(kind, size)) => {
-                put(tokens, count, [u32::from(kind), at as u32, size as u32]);
+                put(tokens, count, [kind, at as u32, size as u32]);
                 count += 1;
                 at = past_space(text, at + size);
             }

@@ -172,10 +172,10 @@ impl Row {
     }
 
     // The kind of the keyword.
-    pub fn kind(self) -> Kind
+    pub fn kind(self) -> u32
         ensures { result ≡ keyword (spelling self.number) }
     {
-        Kind::from(KEYWORDS[self.number].0)
+        KEYWORDS[self.number].0
     }
 
     // Compares a word in full with the keyword, and counts the comparison. Nothing else compares in full.

@@ -30,7 +30,7 @@ fn search(word: &[u8], compared: &mut usize) -> Result<Lexeme, Fault>
             Likeness::Different => near = row.next_near(),
         }
     }
-    Ok(Lexeme::Token(Kind::IDENTIFIER, word.len()))
+    Ok(Lexeme::Token(Kind::IDENTIFIER.0, word.len()))
 }
 
 // Sorts a word. The count of comparisons is for the contracts to speak of: nobody reads it, so the compiled code has none.
@@ -55,5 +55,5 @@ pub fn escaped_word(rest: &[u8]) -> Result<Lexeme, Fault>
     requires { 0 < length rest.now }
     ensures { result ≡ text_words.escaped_word rest.now }
 {
-    Ok(Lexeme::Token(Kind::IDENTIFIER, text::word_run(&rest[1..]) + 1))
+    Ok(Lexeme::Token(Kind::IDENTIFIER.0, text::word_run(&rest[1..]) + 1))
 }

@@ -4,7 +4,6 @@ use mathlib.Core.Path.{◌∙◌}
 use native.Mathlib.Omega.{arith}
 use Rattle.lexemes.proofs.Sorting.{second, no_second, slash_line, slash_block, slash_mark}
 use Rattle.lexemes.proofs.slash.Goals as goal
-use Rattle.lexemes.proofs.slash.Goals.{in_default-via-in-Some+in_default, in_default-via-in_default}
 
 pub returns-in-Some-eq47 : goal.returns-in-Some-eq47
 returns-in-Some-eq47 c =
@@ -16,11 +15,9 @@ returns-in-Some-eq42 c =
 
 pub returns-in_default : goal.returns-in_default
 returns-in_default c =
-    elim c.in_default.branch [
-      | in_default-via-in-Some+in_default w ↦
-          slash_mark _ c.requires (λ f. w.in_default.field-0-test.0.1 (w.in_default.ensures ∙ f))
-          (λ f. w.in_default.field-0-test.1 (w.in_default.ensures ∙ f))
-      | in_default-via-in_default w ↦
-          let e = no_second c.byte_at.ensures w.in_default.is in
-          slash_mark _ c.requires (λ f. omega (arith, e, f)) (λ f. omega (arith, e, f))
-    ]
+    slash_mark _ c.requires (λ f. c.in_default.field-0-test.0.1 (c.in_default.ensures ∙ f)) (λ f. c.in_default.field-0-test.1 (c.in_default.ensures ∙ f))
+
+pub returns-in_default-2 : goal.returns-in_default-2
+returns-in_default-2 c =
+    let e = no_second c.byte_at.ensures c.in_default.is in
+    slash_mark _ c.requires (λ f. omega (arith, e, f)) (λ f. omega (arith, e, f))

@@ -4,7 +4,6 @@ use mathlib.Core.Path.{ap, sym, ◌∙◌}
 use Rattle.text.specs.Bytes.{letter}
 use Rattle.lexemes.proofs.Sorting.{second, no_second, underscore_word, underscore_alone}
 use Rattle.lexemes.proofs.underscore.Goals as goal
-use Rattle.lexemes.proofs.underscore.Goals.{in_default-via-in-Some+else-has, in_default-via-in_default}
 
 pub returns-in-Some : goal.returns-in-Some
 returns-in-Some c =
@@ -12,10 +11,9 @@ returns-in-Some c =
     ∙ underscore_word _ c.requires (ap letter (second c.byte_at.ensures c.in-Some.is) ∙ sym c.has.ensures ∙ c.if-has.true)
 
 pub returns-in_default : goal.returns-in_default
-unfolding letter
 returns-in_default c =
-    elim c.in_default.branch [
-      | in_default-via-in-Some+else-has w ↦
-          underscore_alone _ c.requires (ap letter (second c.byte_at.ensures w.in-Some.is) ∙ sym w.has.ensures ∙ w.if-has.false)
-      | in_default-via-in_default w ↦ underscore_alone _ c.requires (ap letter (no_second c.byte_at.ensures w.in_default.is))
-    ]
+    underscore_alone _ c.requires (ap letter (second c.byte_at.ensures c.in-Some.is) ∙ sym c.has.ensures ∙ c.if-has.false)
+
+pub returns-in_default-2 : goal.returns-in_default-2
+unfolding letter
+returns-in_default-2 c = underscore_alone _ c.requires (ap letter (no_second c.byte_at.ensures c.in_default.is))
