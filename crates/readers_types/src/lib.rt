@@ -45,13 +45,7 @@ fn string_rule(kind: Kind) -> Rule
 }
 
 // (81) string_type and (82) wide_string_type: the word, and a bound or none.
-pub fn string_type(
-    tokens: Tokens,
-    tree: &mut [u32],
-    at: Reading,
-    depth: u32,
-    kind: Kind,
-) -> Reading
+pub fn string_type(tokens: Tokens, tree: &mut [u32], at: Reading, depth: u32, kind: Kind) -> Reading
     requires { IsString kind }
     ensures { Reads one tokens.entry.table.now depth (call (string_rule kind)) (at, tree.old) (result, tree.new) }
 {
@@ -120,13 +114,7 @@ fn further_sizes(tokens: Tokens, tree: &mut [u32], at: Reading, depth: u32) -> R
 }
 
 // Behind the name of a declarator: array sizes or nothing.
-fn behind_name(
-    tokens: Tokens,
-    tree: &mut [u32],
-    start: Reading,
-    at: Reading,
-    depth: u32,
-) -> Reading
+fn behind_name(tokens: Tokens, tree: &mut [u32], start: Reading, at: Reading, depth: u32) -> Reading
     ensures { From one tokens.entry.table.now depth start several behind_name (at, tree.old) (result, tree.new) }
 {
     let next = tokens.next_kind(at);

@@ -10,28 +10,28 @@ use Rattle.readers_core.proofs.Sequence.{◌▸◌}
 use mathlib.Core.List.{[], ◌∷◌}
 use Rattle.readers_operations.proofs.further_strings.Goals as goal
 
-pub loop-comma-smaller : goal.loop-comma-smaller
+pub loop-tokens-smaller : goal.loop-tokens-smaller
 unfolding computing
-loop-comma-smaller c =
-    falls {R = one} {start = c.loop-comma.listed} (among (only ","))
-    c.next_kind.ensures (same c.eq.ensures c.loop-comma-test.true) tt
+loop-tokens-smaller c =
+    falls {R = one} {start = c.loop-tokens.listed} (among (only ","))
+    c.next_kind.ensures (same c.eq.ensures c.loop-tokens-test.true) tt
     (λ hs. (c.take-comma.ensures.reads 0 []).in_any _ _ ▸ (c.string_literal-listed.ensures.reads 0 []).in_any _ _)
 
-pub loop-comma-preserved : goal.loop-comma-preserved
+pub loop-tokens-preserved : goal.loop-tokens-preserved
 unfolding computing
-loop-comma-preserved c =
-    λ R d w start. far_more (among (only ",")) c.next_kind.ensures (same c.eq.ensures c.loop-comma-test.true) tt
+loop-tokens-preserved c =
+    λ R d w start. far_more (among (only ",")) c.next_kind.ensures (same c.eq.ensures c.loop-tokens-test.true) tt
     (λ hs. (c.take-comma.ensures.reads _ _).in_any _ _ ▸ (c.string_literal-listed.ensures.reads _ _).in_any _ _)
-    (c.loop-comma.invariant R d w start)
+    (c.loop-tokens.invariant R d w start)
 
 pub returns : goal.returns
 unfolding computing
 returns c = record {
   reads = λ {R} d w. record {
-    in_any = λ start hs. far_over (except (only "," ∷ [])) c.next_kind.ensures (tt, (differs c.eq.ensures c.loop-comma-test.false)) tt
-        (c.loop-comma.invariant R d w start) hs;
+    in_any = λ start hs. far_over (except (only "," ∷ [])) c.next_kind.ensures (tt, (differs c.eq.ensures c.loop-tokens-test.false)) tt
+        (c.loop-tokens.invariant R d w start) hs;
   };
 }
 
-pub loop-comma-init : goal.loop-comma-init
-loop-comma-init = λ c R d w start. far_here
+pub loop-tokens-init : goal.loop-tokens-init
+loop-tokens-init = λ c R d w start. far_here

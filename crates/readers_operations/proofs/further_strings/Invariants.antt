@@ -9,10 +9,10 @@ use Rattle.readers_names.specs.Plans.{string_literal}
 use mathlib.Core.List.{List}
 use Rattle.readers_operations.proofs.further_strings.Given as goal
 
-abbrev pub invariant-loop-comma : goal.invariant-loop-comma
-invariant-loop-comma l =
+abbrev pub invariant-loop-tokens : goal.invariant-loop-tokens
+invariant-loop-tokens l =
     (R : Course) (d : ℕ) (w : List ℕ) (start : Reading) →
     Far R l.tokens.table.now d start (seq (token (kind_of ",")) (string_literal string)) (l.initial.listed, w) (l.listed, w)
 
-abbrev pub decreases-loop-comma : goal.decreases-loop-comma
-decreases-loop-comma l = remaining l.tokens.table.now l.listed
+abbrev pub decreases-loop-tokens : goal.decreases-loop-tokens
+decreases-loop-tokens l = remaining l.tokens.table.now l.listed

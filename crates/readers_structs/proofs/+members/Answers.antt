@@ -58,53 +58,53 @@ element_spec-returns t c =
     frame (rule "element_spec") ((c.type_spec-spec.ensures.in_any _ _) ▸ (c.declarator-name.ensures.in_any _ _) ▸
     (c.node.ensures.wraps refl _ _ _ tt))
 
-pub further_cases-loop-tree-init : goal.further_cases-loop-tree-init
-further_cases-loop-tree-init t c = no_turn
+pub further_cases-loop-tokens-init : goal.further_cases-loop-tokens-init
+further_cases-loop-tokens-init t c = no_turn
 
 pub further_cases-case_clause-last-requires : goal.further_cases-case_clause-last-requires
 further_cases-case_clause-last-requires t c = omega arith
 
-pub further_cases-loop-tree-smaller : goal.further_cases-loop-tree-smaller
+pub further_cases-loop-tokens-smaller : goal.further_cases-loop-tokens-smaller
 unfolding computing
-further_cases-loop-tree-smaller t c =
-    turn_less case_starts c.next_kind.ensures (is_in case_starts _ c.starts_case.ensures c.loop-tree-test.true) tt
+further_cases-loop-tokens-smaller t c =
+    turn_less case_starts c.next_kind.ensures (is_in case_starts _ c.starts_case.ensures c.loop-tokens-test.true) tt
     c.case_clause-last.ensures
 
-pub further_cases-loop-tree-preserved : goal.further_cases-loop-tree-preserved
+pub further_cases-loop-tokens-preserved : goal.further_cases-loop-tokens-preserved
 unfolding computing
-further_cases-loop-tree-preserved t c =
-    turn_again case_starts c.next_kind.ensures (is_in case_starts _ c.starts_case.ensures c.loop-tree-test.true) tt
-    c.case_clause-last.ensures c.case_clause-last.auto.tree c.loop-tree.invariant
+further_cases-loop-tokens-preserved t c =
+    turn_again case_starts c.next_kind.ensures (is_in case_starts _ c.starts_case.ensures c.loop-tokens-test.true) tt
+    c.case_clause-last.ensures c.case_clause-last.auto.tree c.loop-tokens.invariant
 
 pub further_cases-returns : goal.further_cases-returns
 unfolding computing
 further_cases-returns t c =
-    turned case_starts c.next_kind.ensures (is_out case_starts _ c.starts_case.ensures c.loop-tree-test.false) tt
-    c.loop-tree.invariant
+    turned case_starts c.next_kind.ensures (is_out case_starts _ c.starts_case.ensures c.loop-tokens-test.false) tt
+    c.loop-tokens.invariant
 
-pub further_members-loop-tree-init : goal.further_members-loop-tree-init
-further_members-loop-tree-init t c = no_turn
+pub further_members-loop-tokens-init : goal.further_members-loop-tokens-init
+further_members-loop-tokens-init t c = no_turn
 
 pub further_members-member-last-requires : goal.further_members-member-last-requires
 further_members-member-last-requires t c = omega arith
 
-pub further_members-loop-tree-smaller : goal.further_members-loop-tree-smaller
+pub further_members-loop-tokens-smaller : goal.further_members-loop-tokens-smaller
 unfolding computing
-further_members-loop-tree-smaller t c =
-    turn_less type_starts c.next_kind.ensures (is_in type_starts _ c.starts_type.ensures c.loop-tree-test.true) tt
+further_members-loop-tokens-smaller t c =
+    turn_less type_starts c.next_kind.ensures (is_in type_starts _ c.starts_type.ensures c.loop-tokens-test.true) tt
     c.member-last.ensures
 
-pub further_members-loop-tree-preserved : goal.further_members-loop-tree-preserved
+pub further_members-loop-tokens-preserved : goal.further_members-loop-tokens-preserved
 unfolding computing
-further_members-loop-tree-preserved t c =
-    turn_again type_starts c.next_kind.ensures (is_in type_starts _ c.starts_type.ensures c.loop-tree-test.true) tt
-    c.member-last.ensures c.member-last.auto.tree c.loop-tree.invariant
+further_members-loop-tokens-preserved t c =
+    turn_again type_starts c.next_kind.ensures (is_in type_starts _ c.starts_type.ensures c.loop-tokens-test.true) tt
+    c.member-last.ensures c.member-last.auto.tree c.loop-tokens.invariant
 
 pub further_members-returns : goal.further_members-returns
 unfolding computing
 further_members-returns t c =
-    turned type_starts c.next_kind.ensures (is_out type_starts _ c.starts_type.ensures c.loop-tree-test.false) tt
-    c.loop-tree.invariant
+    turned type_starts c.next_kind.ensures (is_out type_starts _ c.starts_type.ensures c.loop-tokens-test.false) tt
+    c.loop-tokens.invariant
 
 pub member-type_spec-spec-requires : goal.member-type_spec-spec-requires
 member-type_spec-spec-requires t c = omega arith

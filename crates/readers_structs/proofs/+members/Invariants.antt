@@ -56,14 +56,14 @@ decreases-union_rest l = ranks * l.depth + rank "union_rest"
 abbrev pub decreases-union_type : goal.decreases-union_type
 decreases-union_type l = ranks * l.depth + rank "union_type"
 
-abbrev pub invariant-further_cases-loop-tree : goal.invariant-further_cases-loop-tree
-invariant-further_cases-loop-tree l = Turning < "case" > l.tokens.table.now l.initial.tree l.initial.last l.depth l.initial.last l.tree l.last
+abbrev pub invariant-further_cases-loop-tokens : goal.invariant-further_cases-loop-tokens
+invariant-further_cases-loop-tokens l = Turning < "case" > l.tokens.table.now l.initial.tree l.initial.last l.depth l.initial.last l.tree l.last
 
-abbrev pub decreases-further_cases-loop-tree : goal.decreases-further_cases-loop-tree
-decreases-further_cases-loop-tree l = remaining l.tokens.table.now l.last
+abbrev pub decreases-further_cases-loop-tokens : goal.decreases-further_cases-loop-tokens
+decreases-further_cases-loop-tokens l = remaining l.tokens.table.now l.last
 
-abbrev pub invariant-further_members-loop-tree : goal.invariant-further_members-loop-tree
-invariant-further_members-loop-tree l = Turning < "member" > l.tokens.table.now l.initial.tree l.initial.last l.depth l.initial.last l.tree l.last
+abbrev pub invariant-further_members-loop-tokens : goal.invariant-further_members-loop-tokens
+invariant-further_members-loop-tokens l = Turning < "member" > l.tokens.table.now l.initial.tree l.initial.last l.depth l.initial.last l.tree l.last
 
-abbrev pub decreases-further_members-loop-tree : goal.decreases-further_members-loop-tree
-decreases-further_members-loop-tree l = remaining l.tokens.table.now l.last
+abbrev pub decreases-further_members-loop-tokens : goal.decreases-further_members-loop-tokens
+decreases-further_members-loop-tokens l = remaining l.tokens.table.now l.last
