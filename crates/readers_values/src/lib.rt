@@ -178,13 +178,7 @@ fn value_dcl(tokens: Tokens, tree: &mut [u32], start: Reading, at: Reading, dept
 }
 
 // Behind the name: (15) value_box_dcl, (17) value_dcl or (14) value_forward_dcl.
-fn behind_name(
-    tokens: Tokens,
-    tree: &mut [u32],
-    start: Reading,
-    at: Reading,
-    depth: u32,
-) -> Reading
+fn behind_name(tokens: Tokens, tree: &mut [u32], start: Reading, at: Reading, depth: u32) -> Reading
     ensures { From one tokens.entry.table.now depth start several behind_name (at, tree.old) (result, tree.new) }
 {
     let next = tokens.next_kind(at);

@@ -6,24 +6,24 @@ use Rattle.readers_interfaces.specs.Plans.{export_starts}
 use Rattle.readers_core.proofs.Loops.{no_turn, turn_less, turn_again, turned}
 use Rattle.readers_interfaces.proofs.exports.Goals as goal
 
-pub loop-tree-init : goal.loop-tree-init
+pub loop-tokens-init : goal.loop-tokens-init
 unfolding computing
-loop-tree-init c = no_turn
+loop-tokens-init c = no_turn
 
-pub loop-tree-smaller : goal.loop-tree-smaller
+pub loop-tokens-smaller : goal.loop-tokens-smaller
 unfolding computing
-loop-tree-smaller c =
-    turn_less export_starts c.next_kind.ensures (is_in export_starts _ c.starts_export.ensures c.loop-tree-test.true) tt
+loop-tokens-smaller c =
+    turn_less export_starts c.next_kind.ensures (is_in export_starts _ c.starts_export.ensures c.loop-tokens-test.true) tt
     c.export-read.ensures
 
-pub loop-tree-preserved : goal.loop-tree-preserved
+pub loop-tokens-preserved : goal.loop-tokens-preserved
 unfolding computing
-loop-tree-preserved c =
-    turn_again export_starts c.next_kind.ensures (is_in export_starts _ c.starts_export.ensures c.loop-tree-test.true) tt
-    c.export-read.ensures c.export-read.auto.tree c.loop-tree.invariant
+loop-tokens-preserved c =
+    turn_again export_starts c.next_kind.ensures (is_in export_starts _ c.starts_export.ensures c.loop-tokens-test.true) tt
+    c.export-read.ensures c.export-read.auto.tree c.loop-tokens.invariant
 
 pub returns : goal.returns
 unfolding computing
 returns c =
-    turned export_starts c.next_kind.ensures (is_out export_starts _ c.starts_export.ensures c.loop-tree-test.false) tt
-    c.loop-tree.invariant
+    turned export_starts c.next_kind.ensures (is_out export_starts _ c.starts_export.ensures c.loop-tokens-test.false) tt
+    c.loop-tokens.invariant

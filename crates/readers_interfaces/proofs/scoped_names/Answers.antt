@@ -12,22 +12,22 @@ use mathlib.Core.List.{[], ◌∷◌}
 use mathlib.Core.Path.{◌∙◌, refl}
 use Rattle.readers_interfaces.proofs.scoped_names.Goals as goal
 
-pub loop-comma-smaller : goal.loop-comma-smaller
+pub loop-tokens-smaller : goal.loop-tokens-smaller
 unfolding computing
-loop-comma-smaller c =
+loop-tokens-smaller c =
     falls {R = one} {start = c.args.at} (among (only ",")) c.next_kind.ensures
-    (same c.eq.ensures c.loop-comma-test.true) tt
+    (same c.eq.ensures c.loop-tokens-test.true) tt
     ((c.take-comma.ensures.reads 0 _ then
-    by_name interface_names (c.scoped_name-names-in-loop-comma.ensures.at_any 0)).in_any c.args.at)
+    by_name interface_names (c.scoped_name-names-in-loop-tokens.ensures.at_any 0)).in_any c.args.at)
 
-pub loop-comma-preserved : goal.loop-comma-preserved
+pub loop-tokens-preserved : goal.loop-tokens-preserved
 unfolding computing
-loop-comma-preserved c = (
-  c.scoped_name-names-in-loop-comma.auto.tree ∙ c.loop-comma.invariant.0,
-  λ n d start h. far_more (among (only ",")) c.next_kind.ensures (same c.eq.ensures c.loop-comma-test.true) tt
+loop-tokens-preserved c = (
+  c.scoped_name-names-in-loop-tokens.auto.tree ∙ c.loop-tokens.invariant.0,
+  λ n d start h. far_more (among (only ",")) c.next_kind.ensures (same c.eq.ensures c.loop-tokens-test.true) tt
       ((c.take-comma.ensures.reads d _ then by_name h
-      (c.scoped_name-names-in-loop-comma.ensures.at_any d)).in_any start)
-      (c.loop-comma.invariant.1 n d start h),
+      (c.scoped_name-names-in-loop-tokens.ensures.at_any d)).in_any start)
+      (c.loop-tokens.invariant.1 n d start h),
 )
 
 pub returns : goal.returns
@@ -36,11 +36,11 @@ returns c =
     record {
       by_rule = λ n h. record {
         at_any = λ d. by_name h (c.scoped_name-names.ensures.at_any d) then record {
-          in_any = λ start. far_over (except (only "," ∷ [])) c.next_kind.ensures (tt, (differs c.eq.ensures c.loop-comma-test.false)) tt
-              (c.loop-comma.invariant.1 n d start h);
+          in_any = λ start. far_over (except (only "," ∷ [])) c.next_kind.ensures (tt, (differs c.eq.ensures c.loop-tokens-test.false)) tt
+              (c.loop-tokens.invariant.1 n d start h);
         };
       };
     }
 
-pub loop-comma-init : goal.loop-comma-init
-loop-comma-init c = (refl, λ n d start h. far_here)
+pub loop-tokens-init : goal.loop-tokens-init
+loop-tokens-init c = (refl, λ n d start h. far_here)

@@ -10,10 +10,10 @@ use mathlib.Core.Path.{◌≡◌}
 use Rattle.readers_interfaces.proofs.scoped_names.Given as goal
 
 -- what the loop keeps: the length of the tree table, and the names so far, by any such rule
-abbrev pub invariant-loop-comma : goal.invariant-loop-comma
-invariant-loop-comma l =
+abbrev pub invariant-loop-tokens : goal.invariant-loop-tokens
+invariant-loop-tokens l =
     (length l.tree ≡ length l.initial.tree) ×
     ((n d : ℕ) (start : Reading) → Names n → Far one l.tokens.table.now d start (behind_comma n) (l.initial.names, l.initial.tree) (l.names, l.tree))
 
-abbrev pub decreases-loop-comma : goal.decreases-loop-comma
-decreases-loop-comma l = remaining l.tokens.table.now l.names
+abbrev pub decreases-loop-tokens : goal.decreases-loop-tokens
+decreases-loop-tokens l = remaining l.tokens.table.now l.names

@@ -4,8 +4,8 @@ use Rattle.readers_core.specs.Notation.{<◌>}
 use Rattle.readers_core.proofs.Repetition.{remaining}
 use Rattle.readers_values.proofs.elements.Given as goal
 
-abbrev pub invariant-loop-tree : goal.invariant-loop-tree
-invariant-loop-tree l = Turning < "value_element" > l.tokens.table.now l.initial.tree l.initial.read l.depth l.initial.read l.tree l.read
+abbrev pub invariant-loop-tokens : goal.invariant-loop-tokens
+invariant-loop-tokens l = Turning < "value_element" > l.tokens.table.now l.initial.tree l.initial.read l.depth l.initial.read l.tree l.read
 
-abbrev pub decreases-loop-tree : goal.decreases-loop-tree
-decreases-loop-tree l = remaining l.tokens.table.now l.read
+abbrev pub decreases-loop-tokens : goal.decreases-loop-tokens
+decreases-loop-tokens l = remaining l.tokens.table.now l.read
