@@ -87,7 +87,8 @@ fn fixed_pt_type(tokens: Tokens, tree: &mut [u32], at: Reading, depth: u32) -> R
     node(tree, at, bounds, Rule::FIXED_PT_TYPE)
 }
 
-// (84) fixed_array_size
+// (84) fixed_array_size: apart, since most declarators have none.
+#[inline(never)]
 fn fixed_array_size(tokens: Tokens, tree: &mut [u32], at: Reading, depth: u32) -> Reading
     ensures { Reads one tokens.entry.table.now depth < "fixed_array_size" > (at, tree.old) (result, tree.new) }
 {
