@@ -1,8 +1,9 @@
 -- A reader's state in one number: what each step of the code does to its parts.
 -- By the arithmetic of its halves. Assumes nothing.
-use Rattle.std.proofs.Common.{◌≡◌, ℕ, ◌+◌, ◌-◌, ◌*◌, ◌/◌, ◌%◌, ◌<◌, ◌≤◌, Bool, true, false, cond, eqb, sym, refl, ◌∙◌, arith, le-ltb, lt-ltb, eq-eqb, ne_eqb}
+use Rattle.std.proofs.Common.{◌≡◌, ℕ, ◌+◌, ◌-◌, ◌*◌, ◌/◌, ◌%◌, ◌<◌, ◌≤◌, Bool, true}
+use Rattle.std.proofs.Common.{false, cond, eqb, sym, refl, ◌∙◌, arith, le-ltb, lt-ltb}
 use Rattle.tables.specs.Tables.{token_width}
-use Rattle.readers_core.specs.Reading.{blaming, sunk, half, stop, step, deep_rest, blamed, too_deep, view, ceiling}
+use Rattle.readers_core.specs.Reading.{blaming, sunk, half, stop, step, deep_rest, view, ceiling}
 
 -- more than any state: as many as two halves make
 abbrev whole : ℕ
@@ -27,35 +28,6 @@ has_stopped s h e = go (eqb (s % step) deep_rest) (sym (stop_answers s h) ∙ e)
     go : (x : Bool) → ◌≡◌ {A = ℕ} (cond x sunk blaming) 0 → ⊥
     go true u = omega (arith, u)
     go false u = omega (arith, u)
-
--- as the test `is_too_deep` tells
-pub deep_if : (s : ℕ) → stop ≤ s → eqb (s % step) deep_rest ≡ eqb (view s).answer sunk
-deep_if s h = rw (stop_answers s h) (go (eqb (s % step) deep_rest))
-  where
-    go : (x : Bool) → x ≡ eqb (cond x sunk blaming) sunk
-    go true = refl
-    go false = refl
-
--- a token is blamed, or lies too deep
-stops_blamed : (s : ℕ) → stop ≤ s → (s % step ≡ deep_rest → ⊥) → (view s).answer ≡ blaming
-stops_blamed s h n = rw (le-ltb s stop h, ne_eqb (s % step) deep_rest n) refl
-
-module _ (s : ℕ) where
-  pub blames : (view (s % half * step + blamed)).answer ≡ blaming
-  blames = stops_blamed (s % half * step + blamed) (omega arith) (λ e. omega (arith, e))
-
-  pub sinks : (view (s % half * step + too_deep)).answer ≡ sunk
-  sinks =
-      rw (
-        le-ltb (s % half * step + too_deep) stop (omega arith),
-        eq-eqb ((s % half * step + too_deep) % step) deep_rest (omega arith),
-      ) refl
-
-  pub blames_there : s < stop → (view (s % half * step + blamed)).at ≡ (view s).at
-  blames_there h = stop_at (s % half * step + blamed) (omega arith) ∙ omega (arith, going_at s h)
-
-  pub sinks_there : s < stop → (view (s % half * step + too_deep)).at ≡ (view s).at
-  sinks_there h = stop_at (s % half * step + too_deep) (omega arith) ∙ omega (arith, going_at s h)
 
 -- a token is taken
 module _ (s : ℕ) (low : s < stop) (fits : token_width * (s % half) < half) where

@@ -38,7 +38,8 @@ decreases-unary l = ranks * l.depth + rank "unary"
 -- all before the value is ready for what is next, once the first operand was read
 abbrev pub invariant-binary-loop-found : goal.invariant-binary-loop-found
 invariant-binary-loop-found l =
-    (length l.tree ≡ length l.initial.tree) × ((w : List ℕ) → Reads one l.tokens.table.now l.fn.depth (call operand) (l.fn.at, w) (l.initial.value, l.initial.tree) →
+    (length l.tree ≡ length l.initial.tree) ×
+    ((w : List ℕ) → Reads one l.tokens.table.now l.fn.depth (call operand) (l.fn.at, w) (l.initial.value, l.initial.tree) →
     Ready l.tokens.table.now l.fn.depth l.fn.level (l.fn.at, w) (l.value, l.tree))
 
 abbrev pub decreases-binary-loop-found : goal.decreases-binary-loop-found

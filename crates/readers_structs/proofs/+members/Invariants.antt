@@ -12,7 +12,8 @@ use Rattle.readers_structs.proofs.+members.Given as goal
 abbrev rank : String → ℕ
 rank w =
     place w
-    ("struct_body" ∷ "switch_block" ∷ "struct_type" ∷ "union_rest" ∷ "union_type" ∷ "constr_type_spec" ∷ "type_spec" ∷ "element_spec" ∷ "member" ∷ "further_members" ∷ "member_list" ∷ "case_clause" ∷ "further_cases" ∷ "switch_body" ∷ [])
+    ("struct_body" ∷ "switch_block" ∷ "struct_type" ∷ "union_rest" ∷ "union_type" ∷ "constr_type_spec" ∷ "type_spec" ∷ "element_spec" ∷
+    "member" ∷ "further_members" ∷ "member_list" ∷ "case_clause" ∷ "further_cases" ∷ "switch_body" ∷ [])
 
 abbrev pub decreases-case_clause : goal.decreases-case_clause
 decreases-case_clause l = ranks * l.depth + rank "case_clause"
