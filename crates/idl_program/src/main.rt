@@ -47,12 +47,16 @@ fn read<R: Read>(input: &mut R, text: &mut [u8]) -> io::Result<usize>
     streams::read_all(input, text)
 }
 
+fn print<W: Write>(output: &mut W, text: &[u8]) -> io::Result<()> {
+    let mut out = [0u8; ROOM];
+    let size = printing::put_answer(text, &mut out);
+    streams::write_all(output, &out[..size])
+}
+
 fn answer<R: Read, W: Write>(input: &mut R, output: &mut W) -> Result<(), Failure> {
     let mut text = [0u8; LONGEST + 1];
     let size = read(input, &mut text).map_err(Failure::Input)?;
-    let mut out = [0u8; ROOM];
-    let end = printing::put_answer(&text[..size], &mut out);
-    streams::write_all(output, &out[..end]).map_err(Failure::Output)
+    print(output, &text[..size]).map_err(Failure::Output)
 }
 
 fn main(rt: HostRuntime) {

@@ -1,6 +1,6 @@
 -- What a plan comes to where something is known of the next kind: one test for a choice, however many alternatives it has.
 -- By induction on the plan; that the last alternative needs no test is prediction's law. Assumes nothing.
-use Rattle.std.proofs.Common.{◌≡◌, ℕ, zero, suc, ◌+◌, ◌≤◌, Bool, true, false, not, ◌&&◌, ◌||◌, T, eqb, ◌⊎◌, List, [], ◌∷◌, ◌++◌, sym, refl, subst, inl, inr, ⊎_elim, arith, eqb→eq, T_not}
+use Rattle.std.proofs.Common.{◌≡◌, ℕ, zero, suc, ◌+◌, ◌<◌, ◌≤◌, Bool, true, false, not, ◌&&◌, ◌||◌, T, eqb, ◌⊎◌, List, [], ◌∷◌, ◌++◌, sym, refl, subst, inl, inr, ⊎_elim, arith, eqb→eq, T_not}
 use lib.Dec.{not_T}
 use Rattle.grammar.specs.Forest.{Forest}
 use Rattle.grammar.specs.Sets.{elem}
@@ -60,6 +60,13 @@ any_row a (suc n) x h l = go (decide (eqb x a)) (λ m. any_row (suc a) n x m (om
       where
         apart : x ≡ a → ⊥
         apart e = T_not (eqb x a) u (eq→eqb x a e)
+
+pub none_row : (a n x : ℕ) → (x < a) ⊎ (a + n < x) → AnyOf (row a (suc n)) x → ⊥
+unfolding row AnyOf
+none_row a zero x o h = ⊎_elim (λ u. omega arith) (λ u. omega arith) o
+none_row a (suc n) x o (inl e) = ⊎_elim (λ u. omega arith) (λ u. omega arith) o
+none_row a (suc n) x o (inr h) =
+    none_row (suc a) n x (⊎_elim (λ u. inl (omega arith)) (λ u. inr (omega arith)) o) h
 
 pub elem_any : (ks : List ℕ) (x : ℕ) → T (elem x ks) → AnyOf ks x
 unfolding AnyOf elem

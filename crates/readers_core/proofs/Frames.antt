@@ -12,11 +12,11 @@ use Rattle.prediction.specs.Interpreter.{Outcome, Runs, run_seq, run_seq_stop}
 use Rattle.prediction.specs.sharing.Renaming.{Inside, renamed}
 use Rattle.tables.specs.Tables.{token_width}
 use Rattle.readers_core.specs.Course.{Course, Shares, table_in}
-use Rattle.readers_core.specs.Reading.{Reading, kind_at, ahead, half, stop, Addressable, view, IsState, State, Does, From, Reads, none_recorded}
-use Rattle.readers_core.specs.Reading.{Opens, opens_inside}
+use Rattle.readers_core.specs.Reading.{Reading, kind_at, ahead, half, stop, Addressable, view, State, Does, From, Reads, none_recorded}
+use Rattle.readers_core.specs.Reading.{Opens, opens_inside, opens_stopped}
 use Rattle.readers_core.proofs.Shapes.{leaves}
 use Rattle.readers_core.proofs.Sequence.{does_call, does_stays, read_as, taken, ◌▸◌, unrecorded}
-use Rattle.readers_core.proofs.Views.{goes_on, going_at, onward_at, onward_count, onward_goes}
+use Rattle.readers_core.proofs.Views.{goes_on, going_at, has_stopped, onward_answers, onward_at, onward_count, onward_goes, onward_there}
 use Rattle.readers_core.proofs.Choosing.{AnyOf, Known, Knows, among, any_elem, choose, run_chosen, inside_choose, choose_shared, one_of, run_one_of}
 use Rattle.readers_core.proofs.Choosing.{one_of_shared}
 
@@ -49,30 +49,40 @@ in_table ks i k h z e = go (decide (ltb (token_width * i) (length ks)))
     go (inl u) = let l = ltb→lt (token_width * i) (length ks) u in omega arith
     go (inr u) = let x = get_or-eq_default ks 0 (nltb→le (token_width * i) (length ks) u) in absurd (omega arith)
 
--- one that is there is taken; no stop has one at its low half
-module _ (ks : List ℕ) (k s : ℕ) (h : Addressable ks) (z : 0 < k) (ok : IsState s) (e : kind_at ks (s % half) ≡ k) where
-  fits : token_width * (s % half) < half
+-- one that is there is taken; at a stop, that stays
+module _ (ks : List ℕ) (k s : ℕ) (h : Addressable ks) (z : 0 < k) (e : kind_at ks (s % half) ≡ k) where
+  pub fits : token_width * (s % half) < half
   fits = in_table ks (s % half) k h z e
 
-  pub low : s < stop
-  low = go (decide (ltb s stop))
-    where
-      go : T (ltb s stop) ⊎ T (not (ltb s stop)) → s < stop
-      go (inl u) = ltb→lt s stop u
-      go (inr u) = let rest = ok (nltb→le s stop u) in omega (arith, rest, fits)
-
-  pub stays_low : s + 1 < stop
-  stays_low = omega (arith, low, fits)
-
-  pub there : kind_at ks (view s).at ≡ k
-  there = ap (λ (i : ℕ). kind_at ks i) (going_at s low) ∙ e
+  there : s < stop → kind_at ks (view s).at ≡ k
+  there low = ap (λ (i : ℕ). kind_at ks i) (going_at s low) ∙ e
 
   pub moves_past : {R : Course} {d : ℕ} {start : Reading} {hs w : List ℕ} →
       From R ks d start hs (token k) (view s, w) (view (s + 1), w)
-  moves_past = taken (goes_on s low) there (onward_goes s low fits) (onward_at s low fits) (onward_count s low fits)
+  moves_past {R} {d} {start} {hs} {w} = go (decide (ltb s stop))
+    where
+      go : T (ltb s stop) ⊎ T (not (ltb s stop)) → From R ks d start hs (token k) (view s, w) (view (s + 1), w)
+      go (inl u) =
+          let low = ltb→lt s stop u in
+          taken (goes_on s low) (there low) (onward_goes s low fits) (onward_at s low fits) (onward_count s low fits)
+      go (inr u) = record {
+        does = λ _ _ b _ _. does_stays (has_stopped s (nltb→le s stop u)) (record {
+          answers = onward_answers s (nltb→le s stop u) fits;
+          places = onward_there s (nltb→le s stop u) fits;
+        });
+      }
 
   pub opens_past : {d : ℕ} → 0 < d → Opens ks d k (view s) (view (s + 1))
-  opens_past l = opens_inside (goes_on s low) there l (onward_goes s low fits) (onward_at s low fits) (onward_count s low fits)
+  opens_past {d} l = go (decide (ltb s stop))
+    where
+      go : T (ltb s stop) ⊎ T (not (ltb s stop)) → Opens ks d k (view s) (view (s + 1))
+      go (inl u) =
+          let low = ltb→lt s stop u in
+          opens_inside (goes_on s low) (there low) l (onward_goes s low fits) (onward_at s low fits)
+          (onward_count s low fits)
+      go (inr u) =
+          let high = nltb→le s stop u in
+          opens_stopped (has_stopped s high) (onward_answers s high fits) (onward_there s high fits)
 
 -- what is known of the kind ahead is known of the token there
 pub known_there : (ks : List ℕ) (s : Reading) (k : Known) {x : ℕ} → x ≡ ahead ks s → Knows k x → s.answer ≡ 0 →

@@ -1,7 +1,7 @@
 -- A reader's state in one number: what each step of the code does to its parts.
 -- By the arithmetic of its halves. Assumes nothing.
 use Rattle.std.proofs.Common.{◌≡◌, ℕ, ◌+◌, ◌-◌, ◌*◌, ◌/◌, ◌%◌, ◌<◌, ◌≤◌, Bool, true}
-use Rattle.std.proofs.Common.{false, cond, eqb, sym, refl, ◌∙◌, arith, le-ltb, lt-ltb}
+use Rattle.std.proofs.Common.{false, cond, eqb, sym, refl, ◌∙◌, arith, le-ltb, lt-ltb, ne_eqb}
 use Rattle.tables.specs.Tables.{token_width}
 use Rattle.readers_core.specs.Reading.{blaming, sunk, half, stop, step, deep_rest, view, ceiling}
 
@@ -29,6 +29,10 @@ has_stopped s h e = go (eqb (s % step) deep_rest) (sym (stop_answers s h) ∙ e)
     go true u = omega (arith, u)
     go false u = omega (arith, u)
 
+-- a token is blamed, or lies too deep
+stops_blamed : (s : ℕ) → stop ≤ s → (s % step ≡ deep_rest → ⊥) → (view s).answer ≡ blaming
+stops_blamed s h n = rw (le-ltb s stop h, ne_eqb (s % step) deep_rest n) refl
+
 -- a token is taken
 module _ (s : ℕ) (low : s < stop) (fits : token_width * (s % half) < half) where
   below : s + 1 < stop
@@ -42,6 +46,16 @@ module _ (s : ℕ) (low : s < stop) (fits : token_width * (s % half) < half) whe
 
   pub onward_count : (view (s + 1)).count ≡ (view s).count
   onward_count = omega (arith, low, fits)
+
+-- a stop stays also where a token is found at its low half, which no reader makes
+module _ (s : ℕ) (high : stop ≤ s) (fits : token_width * (s % half) < half) where
+  pub onward_answers : (view (s + 1)).answer ≡ (view s).answer
+  onward_answers =
+      stops_blamed (s + 1) (omega (arith, high)) (λ e. omega (arith, e, fits))
+      ∙ sym (stops_blamed s high (λ e. omega (arith, e, fits)))
+
+  pub onward_there : (view (s + 1)).at ≡ (view s).at
+  onward_there = stop_at (s + 1) (omega (arith, high)) ∙ omega (arith, stop_at s high, high, fits)
 
 -- a record is counted
 module _ (s : ℕ) (low : (view s).count < ceiling) where

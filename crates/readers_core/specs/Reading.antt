@@ -29,11 +29,13 @@ blaming = 7
 abbrev pub sunk : ℕ
 sunk = 8
 
--- where it stands: what it has come to, the next token, the tree records so far
+-- where it stands: what it has come to, the next token, the tree records so far; and the rest of a stop, which no relation names:
+-- with it the view of a number forgets nothing
 pub record Reading : Type 0 where
   pub answer : ℕ
   pub at : ℕ
   pub count : ℕ
+  pub rest : ℕ
 
 -- it has stopped
 abbrev pub halted : Reading → Bool
@@ -41,7 +43,7 @@ halted r = not (r.answer == going)
 
 -- before the first token
 abbrev pub beginning : Reading
-beginning = record { answer = going; at = 0; count = 0 }
+beginning = record { answer = going; at = 0; count = 0; rest = 0 }
 
 -- the same in one number: the next token in its low half, the records in its high half; from 2 ^ 63 on a stop, with 2 ^ 31
 -- times its token, and a rest that tells the one for depth
@@ -73,15 +75,12 @@ view s = record {
   answer = cond (nat_lt s stop) going (cond (s % step == deep_rest) sunk blaming);
   at = cond (nat_lt s stop) (s % half) ((s - stop) / step);
   count = s / half;
+  rest = cond (nat_lt s stop) 0 (s % step);
 }
-
--- the numbers that readers make: a stop has one of the two rests
-abbrev pub IsState : ℕ → Type 0
-IsState s = stop ≤ s → deep_rest ≤ s % step
 
 -- and the number of what a reader has come to
 abbrev pub packed : Reading → ℕ
-packed r = cond (r.answer == going) (r.at + half * r.count) (r.at * step + cond (r.answer == sunk) too_deep blamed)
+packed r = cond (r.answer == going) (r.at + half * r.count) (stop + (r.at * step + r.rest))
 
 -- the kind of the next token, 0 at the end and where reading has stopped
 abbrev pub ahead : List ℕ → Reading → ℕ

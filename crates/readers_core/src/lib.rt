@@ -25,18 +25,16 @@ pub struct Reading {
 
 impl Model for Reading {
     ghost use Rattle.std.proofs.Common.{ℕ, ap};
-    ghost use Rattle.readers_core.specs.Reading.{Reading as Seen, IsState, packed, view as seen};
+    ghost use Rattle.readers_core.specs.Reading.{Reading as Seen, packed, view as seen};
     ghost use Rattle.readers_core.specs.Packing.{packed_view};
 
     ghost Value = { Seen };
 
     ghost view = { λ r. seen r.state };
 
-    ghost invariant = { λ r. IsState r.state };
-
     ghost inverse = { λ v. record { state = packed v } };
 
-    ghost inverse_ok = { λ r h. ap (λ (s : ℕ). record { state = s }) (packed_view r.state h) };
+    ghost inverse_ok = { λ r h. ap (λ (s : ℕ). record { state = s }) (packed_view r.state) };
 }
 
 const HALF: u64 = 1 << 32;
@@ -86,6 +84,15 @@ fn too_deep(state: u64) -> Reading
     }
 }
 
+// Any number is a reading, also one that no reader makes.
+impl From<u64> for Reading {
+    fn from(state: u64) -> Reading
+        ensures { result ≡ view state }
+    {
+        Reading { state }
+    }
+}
+
 impl Reading {
     // Before the first token.
     pub fn new() -> Reading
@@ -126,6 +133,28 @@ impl Reading {
     }
 }
 
+// The kind of token i of a table of any length; that of the end past the last.
+pub fn kind_at(tokens: &[u32], i: u32) -> Kind
+    ensures { result ≡ kind_at tokens.now i }
+{
+    let place = tables::TOKEN_WIDTH * (i as usize);
+    if place < tokens.len() {
+        Kind::from(tokens[place])
+    } else {
+        Kind::END
+    }
+}
+
+// The kind of the next token; that of the end also where reading has stopped.
+pub fn next_kind(tokens: &[u32], at: Reading) -> Kind
+    ensures { result ≡ ahead tokens.now at }
+{
+    if STOP <= at.state {
+        return Kind::END;
+    }
+    kind_at(tokens, low(at.state))
+}
+
 // The tokens of a lent table, whose places fit 32 bits.
 #[derive(Clone, Copy)]
 pub struct Tokens<'a> {
@@ -145,22 +174,14 @@ impl<'a> Tokens<'a> {
     pub fn kind_at(self, i: u32) -> Kind
         ensures { result ≡ kind_at self.entry.table.now i }
     {
-        let place = tables::TOKEN_WIDTH * (i as usize);
-        if place < self.table.len() {
-            Kind::from(self.table[place])
-        } else {
-            Kind::END
-        }
+        kind_at(self.table, i)
     }
 
     // The kind of the next token; that of the end also where reading has stopped.
     pub fn next_kind(self, at: Reading) -> Kind
         ensures { result ≡ ahead self.entry.table.now at }
     {
-        if STOP <= at.state {
-            return Kind::END;
-        }
-        self.kind_at(low(at.state))
+        next_kind(self.table, at)
     }
 
     // Reads a token of the kind.
@@ -189,6 +210,10 @@ impl<'a> Tokens<'a> {
                 return Reading {
                     state: at.state + 1,
                 };
+            }
+            // The contract is about any number, also about one that no reader makes.
+            if STOP <= at.state {
+                return at;
             }
             return too_deep(at.state);
         }

@@ -11,29 +11,30 @@ ghost use Rattle.streams.specs.Transfer.{ReadWhole, Within, WrotePart};
 use std::io;
 use std::io::{Error, ErrorKind, Read, Write};
 
-// How many interrupted calls are made again; the next one has failed. A proved loop has to end, and no run uses this number up.
+// How many interrupted calls of a transfer are made again; the next one has failed. A proved loop has to end, and no run uses this number up.
 const INTERRUPTIONS: u32 = u32::MAX;
 
-fn read_some<R: Read>(input: &mut R, bytes: &mut [u8]) -> io::Result<usize>
+// One read. `left` is how many interrupted calls may still be made again.
+fn read_some<R: Read>(input: &mut R, bytes: &mut [u8], left: &mut u32) -> io::Result<usize>
     ensures within { ReadsAtMost result bytes.new }
     ensures bytes { ReadConsumes (R.remaining input.old) (R.remaining input.new) result bytes.new }
 {
-    for _ in 0..INTERRUPTIONS {
+    for _ in 0..*left {
         match input.read(bytes) {
-            Err(error) if error.kind() == ErrorKind::Interrupted => {}
+            Err(error) if error.kind() == ErrorKind::Interrupted => *left = left.saturating_sub(1),
             answer => return answer,
         }
     }
     input.read(bytes)
 }
 
-fn write_some<W: Write>(output: &mut W, bytes: &[u8]) -> io::Result<usize>
+fn write_some<W: Write>(output: &mut W, bytes: &[u8], left: &mut u32) -> io::Result<usize>
     ensures within { WritesAtMost result bytes.now }
     ensures bytes { WriteAppends (W.contents output.old) (W.contents output.new) result bytes.now }
 {
-    for _ in 0..INTERRUPTIONS {
+    for _ in 0..*left {
         match output.write(bytes) {
-            Err(error) if error.kind() == ErrorKind::Interrupted => {}
+            Err(error) if error.kind() == ErrorKind::Interrupted => *left = left.saturating_sub(1),
             answer => return answer,
         }
     }
@@ -46,8 +47,9 @@ pub fn read_all<R: Read>(input: &mut R, bytes: &mut [u8]) -> io::Result<usize>
     ensures bytes { ReadWhole (R.remaining input.old) (R.remaining input.new) result bytes.new }
 {
     let mut size = 0;
+    let mut left = INTERRUPTIONS;
     while size < bytes.len() {
-        let n = read_some(input, &mut bytes[size..])?;
+        let n = read_some(input, &mut bytes[size..], &mut left)?;
         if n == 0 {
             break;
         }
@@ -62,8 +64,9 @@ pub fn write_all<W: Write>(output: &mut W, bytes: &[u8]) -> io::Result<()>
     ensures part { OnErr result (WrotePart (W.contents output.old) (W.contents output.new) bytes.now) }
 {
     let mut rest = bytes;
+    let mut left = INTERRUPTIONS;
     while !rest.is_empty() {
-        let n = write_some(output, rest)?;
+        let n = write_some(output, rest, &mut left)?;
         if n == 0 {
             return Err(Error::from(ErrorKind::WriteZero));
         }

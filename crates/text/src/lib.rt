@@ -50,6 +50,7 @@ pub trait Class {
 }
 
 // Both tests are made each time, as of `Ordinary`: by one `matches!` the compiler would take a block's bytes one by one.
+#[derive(Clone, Copy)]
 pub struct Space;
 
 impl Class for Space {
@@ -61,6 +62,7 @@ impl Class for Space {
     }
 }
 
+#[derive(Clone, Copy)]
 pub struct Letter;
 
 impl Class for Letter {
@@ -72,6 +74,7 @@ impl Class for Letter {
     }
 }
 
+#[derive(Clone, Copy)]
 pub struct Digit;
 
 impl Class for Digit {
@@ -83,6 +86,7 @@ impl Class for Digit {
     }
 }
 
+#[derive(Clone, Copy)]
 pub struct Octal;
 
 impl Class for Octal {
@@ -94,6 +98,7 @@ impl Class for Octal {
     }
 }
 
+#[derive(Clone, Copy)]
 pub struct Hexadecimal;
 
 impl Class for Hexadecimal {
@@ -106,6 +111,7 @@ impl Class for Hexadecimal {
 }
 
 // Letters, digits, underscores.
+#[derive(Clone, Copy)]
 pub struct Wordly;
 
 impl Class for Wordly {
@@ -118,6 +124,7 @@ impl Class for Wordly {
 }
 
 // Any byte that ends no line.
+#[derive(Clone, Copy)]
 pub struct InLine;
 
 impl Class for InLine {
@@ -130,6 +137,7 @@ impl Class for InLine {
 }
 
 // Any byte but a star.
+#[derive(Clone, Copy)]
 pub struct Starless;
 
 impl Class for Starless {
@@ -142,6 +150,7 @@ impl Class for Starless {
 }
 
 // What stands for itself in a literal.
+#[derive(Clone, Copy)]
 pub struct Plain;
 
 impl Class for Plain {
@@ -154,6 +163,7 @@ impl Class for Plain {
 }
 
 // What a string may hold as it is.
+#[derive(Clone, Copy)]
 pub struct Ordinary;
 
 impl Class for Ordinary {

@@ -1,18 +1,20 @@
 -- From what reading the whole text finds to the table: its tokens are few, and where they have room, their records are at its front.
 -- Each rewrites the definitions by what was found. Assumes nothing.
 use mathlib.Core.List.{List}
-use mathlib.Core.Bool.{true}
+use mathlib.Core.Bool.{true, false}
 use mathlib.Core.Path.{◌≡◌, refl, ◌∙◌}
 use Prim.Native.Nat.{ℕ, ◌≤◌, ◌<◌}
 use native.Mathlib.Omega.{arith}
 use borrow.Author.Tests.{le-leb, leb-true}
-use Rattle.std.specs.Prelude.{Ok}
+use Rattle.std.specs.Prelude.{Ok, Err}
 use lib.ListN.{length}
 use Rattle.limits.specs.Limits.{text_ceiling, good_text}
-use Rattle.tables.specs.Tables.{number_end, token_width, capacity, store}
+use Rattle.replies.specs.declared.Reply.{Reply}
+use Rattle.replies.specs.Replies as rows
+use Rattle.tables.specs.Tables.{number_end, token_width, capacity, store, zeroed}
 use Rattle.tables.proofs.Laws.{store_front, capacity_fits}
 use Rattle.text.specs.Tokens.{Tokens, tokens, tokens_of}
-use Rattle.tokens.specs.Answer.{Scanned, all_tokens, token_table}
+use Rattle.tokens.specs.Answer.{Scanned, all_tokens, first_fault, answer, filled, token_reply, token_table}
 use Rattle.tokens.proofs.Order.{tokens_few, tokens_records}
 
 -- the whole text is n tokens, whose records are in the table as far as they fit
@@ -24,6 +26,15 @@ record Counted (whole : Tokens) (table after : List ℕ) (n : ℕ) : Type 0 wher
 
 counted : {whole : Tokens} {table after : List ℕ} {n : ℕ} → Scanned whole table after (Ok n) → Counted whole table after n
 counted (all_tokens list) = record { list = list; all = refl; stored = refl; count = refl }
+
+-- the first fault is the answer, and the table is to be zeroed
+faulted : {whole : Tokens} {table after : List ℕ} {reply : Reply} (n : ℕ) → Scanned whole table after (Err reply) →
+    (reply ≡ answer n table whole) × (zeroed table ≡ filled table whole)
+faulted n (first_fault f) = (refl, refl)
+
+pub refused : (text table : List ℕ) → good_text (length text) ≡ false →
+    (rows.outside_limits ≡ token_reply text table) × (table ≡ token_table text table)
+refused text table bad = simp bad (refl, refl)
 
 module _ (text table : List ℕ) (good : good_text (length text) ≡ true) {after : List ℕ} {n : ℕ} (s : Scanned (tokens_of text) table after (Ok n)) where
   -- the count fits 32 bits

@@ -9,7 +9,7 @@ ghost use Rattle.words.specs.Search.{near_keywords, sorted_among, comparisons};
 mod comparison;
 mod keywords;
 
-use comparison::Likeness;
+pub use comparison::Likeness;
 use keywords::Row;
 use kinds::Kind;
 use text::{Fault, Lexeme};

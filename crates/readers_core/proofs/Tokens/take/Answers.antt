@@ -3,7 +3,7 @@
 use Rattle.std.proofs.Common.{ℕ, sym, ap, ◌∙◌, arith}
 use Rattle.readers_core.specs.Reading.{kind_at}
 use Rattle.readers_core.proofs.Equality.{differs, same}
-use Rattle.readers_core.proofs.Frames.{moves_past, stays_low}
+use Rattle.readers_core.proofs.Frames.{moves_past, fits}
 use Rattle.readers_core.proofs.Sequence.{missed, stays}
 use Rattle.readers_core.proofs.Views.{goes_on, going_at, has_stopped}
 use Rattle.readers_core.proofs.Tokens.take.Goals as goal
@@ -12,14 +12,7 @@ pub overflow_add-result : goal.overflow_add-result
 overflow_add-result c =
     let ks = c.args.self.table.now in
     let there = sym (c.kind_at.ensures ∙ ap (λ (i : ℕ). kind_at ks i) c.low.ensures) ∙ same c.eq.ensures c.if-eq.true in
-    omega (arith, stays_low ks c.args.kind c.at.inside.state c.args.self.addressable c.requires c.at.invariant there)
-
-pub invariant_of-result : goal.invariant_of-result
-invariant_of-result c =
-    let ks = c.args.self.table.now in
-    let there = sym (c.kind_at.ensures ∙ ap (λ (i : ℕ). kind_at ks i) c.low.ensures) ∙ same c.eq.ensures c.if-eq.true in
-    let low = stays_low ks c.args.kind c.at.inside.state c.args.self.addressable c.requires c.at.invariant there in
-    λ l. omega (arith, l, low)
+    omega (arith, fits ks c.args.kind c.at.inside.state c.args.self.addressable c.requires there)
 
 pub returns-then-eq : goal.returns-then-eq
 returns-then-eq c =
@@ -28,7 +21,7 @@ returns-then-eq c =
     rw (← c.at.view_is) (record {
       reads = λ d w. record {
         in_any = λ start hs.
-            moves_past ks c.args.kind c.at.inside.state c.args.self.addressable c.requires c.at.invariant there;
+            moves_past ks c.args.kind c.at.inside.state c.args.self.addressable c.requires there;
       };
     })
 
