@@ -47,6 +47,7 @@ fn read<R: Read>(input: &mut R, text: &mut [u8]) -> io::Result<usize>
     streams::read_all(input, text)
 }
 
+// Apart from `answer`, since a function clears its locals where it begins: with the reading before it, `out` was cleared twice.
 fn print<W: Write>(output: &mut W, text: &[u8]) -> io::Result<()> {
     let mut out = [0u8; ROOM];
     let size = printing::put_answer(text, &mut out);
